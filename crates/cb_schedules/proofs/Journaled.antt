@@ -67,7 +67,7 @@ pub record IsJournaled (setting : Setting) (r : JournaledState) : Type 0 where
   pub arrivals : (x : EnteredCall) → IsIn x r.entered → TakesOneOf r.sent x.call
   pub handed : (k : ℕ) → Tells setting k (take (r.written k) (r.histories k)) (r.handed k)
 
-starts : (setting : Setting) → IsJournaled setting nothing_journaled
+pub starts : (setting : Setting) → IsJournaled setting nothing_journaled
 starts setting = record {
   entered = NoCalls;
   memory = λ k. refl;
@@ -327,7 +327,7 @@ step_holds setting is r h (SendStep j n) = sent_holds setting r h j n (slice_get
 step_holds setting is r h (HandOutStep j) = handed_holds setting r h j (slice_get (events (seat_at setting j) (facts_of (take (r.written j) (r.histories j)))) (length (r.handed j))) refl
 step_holds setting is r h (RestartStep j) = restart_holds setting r h j
 
-from_holds : (setting : Setting) → IsSetting setting → (r : JournaledState) → IsJournaled setting r → (steps : List JournaledStep) → IsJournaled setting (journaled_from WriteFirst setting r steps)
+pub from_holds : (setting : Setting) → IsSetting setting → (r : JournaledState) → IsJournaled setting r → (steps : List JournaledStep) → IsJournaled setting (journaled_from WriteFirst setting r steps)
 unfolding journaled_from
 from_holds setting is r h [] = h
 from_holds setting is r h (step ∷ steps) = from_holds setting is (journaled_step WriteFirst setting r step) (step_holds setting is r h step) steps

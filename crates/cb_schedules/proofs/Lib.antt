@@ -45,6 +45,7 @@ pub mod Within
 pub mod Entered
 pub mod Journaled
 pub mod RestartLaws
+pub mod CatchingUp
 pub mod CoreRestarts
 pub mod Forgetting
 pub mod Cores

@@ -101,7 +101,7 @@ module _ (setting : Setting) (is : IsSetting setting) (r : JournaledState) (h : 
 
 -- ---- step by step
 
-from_joins : (setting : Setting) (r : JournaledState) (steps more : List JournaledStep)
+pub from_joins : (setting : Setting) (r : JournaledState) (steps more : List JournaledStep)
     → journaled_from WriteFirst setting r (steps ++ more) ≡ journaled_from WriteFirst setting (journaled_from WriteFirst setting r steps) more
 unfolding journaled_from
 from_joins setting r [] more = refl

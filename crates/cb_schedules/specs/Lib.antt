@@ -17,4 +17,5 @@ pub mod ForgettingLaws
 pub mod ForgettingRounds
 pub mod Restarts
 pub mod RestartLaws
+pub mod RestartRounds
 pub mod ForgettingRestarts

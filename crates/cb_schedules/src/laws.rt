@@ -31,8 +31,8 @@ pub use knowledge::{
 };
 pub use restarts::{
     causal_broadcast_with_restarts, cores_come_back_as_members_do, frames_outlive_restarts,
-    nothing_is_taken_back, restarts_leave_a_schedule, sending_first_is_wrong,
-    what_is_written_can_be_resumed,
+    nothing_is_taken_back, restarts_leave_a_schedule, rounds_repair_behind_restarts,
+    schedules_can_be_journaled, sending_first_is_wrong, what_is_written_can_be_resumed,
 };
 pub use rounds::{
     a_few_rounds_repair_whatever_was_lost, a_round_is_a_tick_of_each_and_its_arrivals,

@@ -14,6 +14,11 @@ ghost use Rattle.cb_schedules.specs.RestartLaws.{HasItsHistories, OfWhatIsLeft, 
 ghost use Rattle.cb_schedules.specs.RestartLaws.{SendingFirstUsesANameTwice, SentItsFrames};
 ghost use Rattle.cb_schedules.specs.RestartLaws.{StepsTakeNothingBack, WhatIsWrittenIsHandedOut};
 ghost use Rattle.cb_schedules.specs.RestartLaws.{WhatIsWrittenIsLegal};
+ghost use Rattle.cb_schedules.specs.RestartRounds.{BehindJournaledRounds, SchedulesCanBeJournaled};
+ghost use Rattle.cb_schedules.specs.RoundLaws.{EverybodyHasEverything, EverybodyHasTheSame};
+ghost use Rattle.cb_schedules.specs.RoundLaws.{EverybodyKnowsWhatIsStable, EverythingIsStable};
+ghost use Rattle.cb_schedules.specs.RoundLaws.{NothingIsMissing, rounds_to_be_stable};
+ghost use Rattle.cb_schedules.specs.RoundLaws.{rounds_to_deliver};
 ghost use Rattle.cb_schedules.specs.SentLaws.{HelpersAreThird, NobodyAsksItself, OneNameSameBytes};
 ghost use Rattle.cb_schedules.specs.SentLaws.{SentCastsAreOwn, SentStatusesAreSo};
 
@@ -29,6 +34,12 @@ pub fn restarts_leave_a_schedule()
     ensures histories { EachJournaledRun (BesideWhatIsLeft HasItsHistories) }
     ensures frames { EachJournaledRun (BesideWhatIsLeft SentItsFrames) }
     ensures handed { EachJournaledRun (BesideWhatIsLeft HandedOutItsEvents) }
+{}
+
+/// Writing first forbids nothing: every schedule can be carried out so, each entry written and each frame sent at once, with the same
+/// histories and frames as its run.
+pub fn schedules_can_be_journaled()
+    ensures { SchedulesCanBeJournaled }
 {}
 
 /// So the headline holds of it, word for word: the members' casts and deliveries are a run of the causal machine, each has delivered
@@ -83,4 +94,15 @@ pub fn cores_come_back_as_members_do()
 pub fn sending_first_is_wrong()
     ensures twice { SendingFirstUsesANameTwice }
     ensures back { HandingOutFirstIsTakenBack }
+{}
+
+/// Behind restarts members catch up: in rounds in which nobody ends, one round and W / 64 more, rounded up, where W is the window and no
+/// history is found full, bring everybody everything. That is whatever was lost, what waited when a member ended as well. After one
+/// more all is stable, and everybody knows it.
+pub fn rounds_repair_behind_restarts()
+    ensures delivered { BehindJournaledRounds rounds_to_deliver EverybodyHasEverything }
+    ensures same { BehindJournaledRounds rounds_to_deliver EverybodyHasTheSame }
+    ensures missing { BehindJournaledRounds rounds_to_deliver NothingIsMissing }
+    ensures stable { BehindJournaledRounds rounds_to_be_stable EverythingIsStable }
+    ensures known { BehindJournaledRounds rounds_to_be_stable EverybodyKnowsWhatIsStable }
 {}
