@@ -1,0 +1,6 @@
+pub mod Journal
+pub mod Reading
+pub mod Laws
+pub mod Writing
+pub mod Finding
+pub mod FaultText

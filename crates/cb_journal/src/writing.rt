@@ -1,0 +1,225 @@
+//! A journal that grows.
+
+ghost use Rattle.std.specs.Prelude.{◌≡◌, ◌≤◌, List, ℕ, [], Err, None, Some, IfOk, IfErr, IfSome, OnErr, OnOk, length, take};
+ghost use Rattle.std.specs.Io.KnownBytes.{Appends, Keeps};
+ghost use Rattle.cb_history.specs.Facts.{entry_fields};
+ghost use Rattle.cb_history.specs.LegalHistory.{seat_in};
+ghost use Rattle.cb_lines.specs.Text.{entry_line, with_line_feed};
+ghost use Rattle.cb_journal.specs.Journal.{journal_text};
+ghost use Rattle.cb_journal.specs.Reading.{IsRead, entries_in};
+ghost use Rattle.cb_journal.specs.Writing.{KeepsFront, WritesPart};
+
+use crate::device::Device;
+use crate::fault::AppendFault;
+use crate::head::put_head;
+use crate::reading::Journal;
+use cb_history::{Entry, Identity};
+use cb_lines::put_entry;
+use cb_times::NoMemory;
+use std::alloc::Global;
+use std::io;
+use std::io::{ErrorKind, Write};
+
+/// Writes the lines of a journal. What `append` answers `Ok` for outlasts a crash.
+///
+/// After a fault nothing more is written, and each call answers that fault: a part of a line may stand at the end, which
+/// `read_journal` leaves out and `go_on` cuts off.
+#[derive(Drop)]
+pub struct JournalWriter<D> {
+    device: D,
+    /// The line that is written; its room is kept.
+    line: Vec<u8>,
+    /// The first fault.
+    fault: Option<AppendFault>,
+}
+
+impl<D: Device + Drop> JournalWriter<D> {
+    /// Begins the journal of this member: all that the device holds is cut off, and the head line is written.
+    pub fn begin(alloc: Global, device: D, seat: Identity) -> Result<JournalWriter<D>, AppendFault>
+        ensures text { (bytes : List ℕ) → D.contents device ≡ Some bytes → IfOk result (λ writer.
+            D.contents writer.device ≡ Some (journal_text seat [])) }
+        ensures lasts { IfOk result (λ writer.
+            Keeps (D.contents writer.device) (D.lasting writer.device)) }
+        ensures sound { IfOk result (λ writer. writer.fault ≡ None) }
+    {
+        let mut device = device;
+        let mut line = Vec::new(alloc);
+        put_head(&mut line, seat)?;
+        line.push(b'\n')?;
+        cut_to(&mut device, 0)?;
+        put_line(&mut device, &line)?;
+        Ok(JournalWriter {
+            device,
+            line,
+            fault: None,
+        })
+    }
+
+    /// Goes on with the journal that was read of this device: what stands behind its whole lines is cut off.
+    pub fn go_on(
+        alloc: Global,
+        device: D,
+        journal: &Journal,
+    ) -> Result<JournalWriter<D>, AppendFault>
+        ensures text { (bytes : List ℕ) → D.contents device ≡ Some bytes → IsRead bytes journal.now
+            → IfOk result (λ writer. D.contents writer.device
+            ≡ Some (journal_text (seat_in journal.now.history) (entries_in journal.now))) }
+        ensures lasts { IfOk result (λ writer.
+            Keeps (D.contents writer.device) (D.lasting writer.device)) }
+        ensures sound { IfOk result (λ writer. writer.fault ≡ None) }
+    {
+        let mut device = device;
+        cut_to(&mut device, journal.read as u64)?;
+        Ok(JournalWriter {
+            device,
+            line: Vec::new(alloc),
+            fault: None,
+        })
+    }
+
+    /// Writes the entry's line, and makes it outlast a crash.
+    pub fn append(&mut self, entry: &Entry) -> Result<(), AppendFault>
+        ensures ok { OnOk result (Appends (D.contents self.old.device) (D.contents self.new.device)
+            (with_line_feed (entry_line (entry_fields entry.now)))) }
+        ensures lasts { OnOk result
+            (Keeps (D.contents self.new.device) (D.lasting self.new.device)) }
+        ensures sound { OnOk result ((self.old.fault ≡ None) × (self.new.fault ≡ None)) }
+        ensures err { OnErr result (WritesPart (D.contents self.old.device)
+            (D.contents self.new.device)
+            (with_line_feed (entry_line (entry_fields entry.now)))) }
+        ensures fault { IfErr result (λ fault. self.new.fault ≡ Some fault) }
+        // From the first fault on nothing is written.
+        ensures again { IfSome self.old.fault (λ fault. (result ≡ Err fault)
+            × (self.new ≡ self.old)) }
+    {
+        if let Some(fault) = self.fault {
+            return Err(fault);
+        }
+        let written = self.write(entry);
+        if let Err(fault) = written {
+            self.fault = Some(fault);
+        }
+        written
+    }
+
+    fn write(&mut self, entry: &Entry) -> Result<(), AppendFault>
+        ensures ok { OnOk result (Appends (D.contents self.old.device) (D.contents self.new.device)
+            (with_line_feed (entry_line (entry_fields entry.now)))) }
+        ensures lasts { OnOk result
+            (Keeps (D.contents self.new.device) (D.lasting self.new.device)) }
+        ensures err { OnErr result (WritesPart (D.contents self.old.device)
+            (D.contents self.new.device)
+            (with_line_feed (entry_line (entry_fields entry.now)))) }
+        ensures fault { self.new.fault ≡ self.old.fault }
+    {
+        self.line.clear();
+        put_entry(&mut self.line, entry)?;
+        self.line.push(b'\n')?;
+        put_line(&mut self.device, &self.line)
+    }
+
+    /// The first fault, if there was one.
+    pub fn fault(&self) -> Option<AppendFault>
+        ensures { result ≡ self.now.fault }
+    {
+        self.fault
+    }
+
+    /// The device, with what was written.
+    pub fn into_device(self) -> D
+        ensures { result ≡ self.device }
+    {
+        let JournalWriter {
+            device,
+            line: _,
+            fault: _,
+        } = self;
+        device
+    }
+}
+
+/// Writes all of a line, and makes it outlast a crash.
+fn put_line<D: Device>(device: &mut D, line: &[u8]) -> Result<(), AppendFault>
+    ensures ok { OnOk result (Appends (D.contents device.old) (D.contents device.new) line.now) }
+    ensures lasts { OnOk result (Keeps (D.contents device.new) (D.lasting device.new)) }
+    ensures err { OnErr result
+        (WritesPart (D.contents device.old) (D.contents device.new) line.now) }
+{
+    write_whole(device, line)?;
+    match finish(device) {
+        Ok(()) => Ok(()),
+        Err(fault) => Err(fault),
+    }
+}
+
+/// Makes what was written outlast a crash.
+fn finish<D: Device>(device: &mut D) -> Result<(), AppendFault>
+    ensures held { Keeps (D.contents device.old) (D.contents device.new) }
+    ensures lasts { OnOk result (Keeps (D.contents device.new) (D.lasting device.new)) }
+{
+    match device.flush() {
+        Ok(()) => synced(device),
+        Err(fault) => Err(AppendFault::Write { kind: fault.kind() }),
+    }
+}
+
+fn synced<D: Device>(device: &mut D) -> Result<(), AppendFault>
+    ensures held { Keeps (D.contents device.old) (D.contents device.new) }
+    ensures lasts { OnOk result (Keeps (D.contents device.new) (D.lasting device.new)) }
+{
+    match device.sync() {
+        Ok(()) => Ok(()),
+        Err(fault) => Err(AppendFault::Sync { kind: fault.kind() }),
+    }
+}
+
+/// Cuts the device behind so many bytes, which then outlast a crash alone.
+fn cut_to<D: Device>(device: &mut D, length: u64) -> Result<(), AppendFault>
+    ensures cut { OnOk result (KeepsFront length (D.contents device.old) (D.contents device.new)) }
+    ensures lasts { OnOk result (Keeps (D.contents device.new) (D.lasting device.new)) }
+{
+    match device.cut(length) {
+        Ok(()) => synced(device),
+        Err(fault) => Err(AppendFault::Cut { kind: fault.kind() }),
+    }
+}
+
+/// Writes some of the bytes, none of them only where the write was interrupted.
+fn write_some<W: Write>(output: &mut W, bytes: &[u8]) -> Result<usize, AppendFault>
+    ensures within { IfOk result (λ count. count ≤ length bytes.now) }
+    ensures ok { IfOk result (λ count.
+        Appends (W.contents output.old) (W.contents output.new) (take count bytes.now)) }
+    ensures err { OnErr result (Appends (W.contents output.old) (W.contents output.new) []) }
+{
+    match output.write(bytes) {
+        Ok(0) => Err(AppendFault::Write {
+            kind: ErrorKind::WriteZero,
+        }),
+        Ok(count) => Ok(count),
+        Err(fault) => match fault.kind() {
+            ErrorKind::Interrupted => Ok(0),
+            kind => Err(AppendFault::Write { kind }),
+        },
+    }
+}
+
+/// Writes all of the bytes, as std's `write_all` does: a write that was interrupted is tried again. After a fault a beginning of them
+/// may be written.
+fn write_whole<W: Write>(output: &mut W, bytes: &[u8]) -> Result<(), AppendFault>
+    ensures ok { OnOk result (Appends (W.contents output.old) (W.contents output.new) bytes.now) }
+    ensures err { OnErr result
+        (WritesPart (W.contents output.old) (W.contents output.new) bytes.now) }
+{
+    let mut rest = bytes;
+    for _ in 0..u64::MAX {
+        if rest.is_empty() {
+            return Ok(());
+        }
+        let count = write_some(output, rest)?;
+        let (_, after) = rest.split_at(count);
+        rest = after;
+    }
+    Err(AppendFault::Write {
+        kind: ErrorKind::Interrupted,
+    })
+}

@@ -1,0 +1,11 @@
+//! Tests of journals with public calls alone.
+#![tactic(auto)]
+
+#[cfg(test)]
+mod asserts;
+#[cfg(test)]
+mod devices;
+#[cfg(test)]
+mod journals;
+#[cfg(test)]
+mod writers;
