@@ -1,0 +1,4 @@
+pub mod Loads
+pub mod Replaying
+pub mod Resuming
+pub mod FaultText
