@@ -77,6 +77,8 @@ tests_of() {
         cb_member) echo tests_member cb_member ;;
         cb_reference) echo tests_member ;;
         cb_causality | cb_history | cb_rooms | cb_world | cb_trace) echo tests_group ;;
+        cb_journal) echo tests_journal ;;
+        cb_lines | cb_replay) echo tests_journal tests_group ;;
         cb_handle) echo jolunza ;;
         confer_text) echo confer_text confer_expand confer_play ;;
         *) echo "$1" ;;

@@ -2,10 +2,12 @@
 use Rattle.std.proofs.Common.{◌≡◌, ℕ, List, [], ◌∷◌, ◌++◌, length, take, drop, sym, ap, subst, ◌∙◌, arith, append_assoc}
 use Rattle.std.specs.Prelude.{Option, Some, None}
 use Rattle.std.specs.Io.KnownBytes.{Appends, Keeps}
-use Rattle.std.proofs.lemmas.List.{append-nil, take-append-drop}
+use Rattle.std.proofs.lemmas.List.{append-nil, map-append, take-append-drop}
 use Rattle.cb_history.specs.Group.{Identity}
-use Rattle.cb_lines.proofs.Lines.{no_lines, one_line}
-use Rattle.cb_journal.specs.Journal.{head_line, journal_text}
+use Rattle.cb_history.specs.Facts.{EntryFields}
+use Rattle.cb_lines.specs.Text.{entry_line, text_of_lines, with_line_feed}
+use Rattle.cb_lines.proofs.Lines.{no_lines, one_line, line_more}
+use Rattle.cb_journal.specs.Journal.{head_line, journal_lines, journal_text}
 use Rattle.cb_journal.specs.Writing.{KeepsFront, WritesPart}
 
 pub appends_none : (known : Option (List ℕ)) → Appends known known []
@@ -67,3 +69,12 @@ begun (Some old) (Some now) (Some after) bytes line is kept added = ap Some (add
 pub head_text : (s : Identity) → journal_text s [] ≡ head_line s ++ 10 ∷ []
 unfolding journal_text
 head_text s = one_line (head_line s) [] ∙ ap (λ (t : List ℕ). head_line s ++ 10 ∷ t) no_lines
+
+-- ---- one line more
+
+pub grown : (before now : Option (List ℕ)) (s : Identity) (es : List EntryFields) (e : EntryFields) → before ≡ Some (journal_text s es) → Appends before now (with_line_feed (entry_line e)) → now ≡ Some (journal_text s (es ++ e ∷ []))
+unfolding journal_text
+grown None now s es e is added = absurd (cc is)
+grown (Some old) None s es e is added = absurd added
+grown (Some old) (Some now) s es e is added =
+    ap Some (added ∙ ap (λ (t : List ℕ). t ++ with_line_feed (entry_line e)) (cc is) ∙ line_more (journal_lines s es) (entry_line e) [] ∙ append-nil _ ∙ ap (λ (ls : List (List ℕ)). text_of_lines (head_line s ∷ ls)) (sym (map-append entry_line es (e ∷ []))))

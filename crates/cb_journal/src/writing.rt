@@ -1,8 +1,9 @@
 //! A journal that grows.
 
-ghost use Rattle.std.specs.Prelude.{◌≡◌, ◌≤◌, List, ℕ, [], Err, None, Some, IfOk, IfErr, IfSome, OnErr, OnOk, length, take};
+ghost use Rattle.std.specs.Prelude.{◌≡◌, ◌≤◌, ◌∷◌, ◌++◌, List, ℕ, [], Err, None, Some, IfOk, IfErr, IfSome, OnErr, OnOk, length, take};
 ghost use Rattle.std.specs.Io.KnownBytes.{Appends, Keeps};
-ghost use Rattle.cb_history.specs.Facts.{entry_fields};
+ghost use Rattle.cb_history.specs.Group.{Identity as IdentityOf};
+ghost use Rattle.cb_history.specs.Facts.{EntryFields, entry_fields};
 ghost use Rattle.cb_history.specs.LegalHistory.{seat_in};
 ghost use Rattle.cb_lines.specs.Text.{entry_line, with_line_feed};
 ghost use Rattle.cb_journal.specs.Journal.{journal_text};
@@ -79,6 +80,11 @@ impl<D: Device + Drop> JournalWriter<D> {
 
     /// Writes the entry's line, and makes it outlast a crash.
     pub fn append(&mut self, entry: &Entry) -> Result<(), AppendFault>
+        // The journal of some entries becomes that of these and one more.
+        ensures text { (seat : IdentityOf) (entries : List EntryFields)
+            → D.contents self.old.device ≡ Some (journal_text seat entries)
+            → OnOk result (D.contents self.new.device
+            ≡ Some (journal_text seat (entries ++ entry_fields entry.now ∷ []))) }
         ensures ok { OnOk result (Appends (D.contents self.old.device) (D.contents self.new.device)
             (with_line_feed (entry_line (entry_fields entry.now)))) }
         ensures lasts { OnOk result
@@ -95,11 +101,13 @@ impl<D: Device + Drop> JournalWriter<D> {
         if let Some(fault) = self.fault {
             return Err(fault);
         }
-        let written = self.write(entry);
-        if let Err(fault) = written {
-            self.fault = Some(fault);
+        match self.write(entry) {
+            Ok(()) => Ok(()),
+            Err(fault) => {
+                self.fault = Some(fault);
+                Err(fault)
+            }
         }
-        written
     }
 
     fn write(&mut self, entry: &Entry) -> Result<(), AppendFault>

@@ -8,4 +8,6 @@ mod devices;
 #[cfg(test)]
 mod journals;
 #[cfg(test)]
+mod resumes;
+#[cfg(test)]
 mod writers;
