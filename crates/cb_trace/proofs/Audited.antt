@@ -22,7 +22,8 @@ use Rattle.cb_trace.specs.declared.joining.Joining.{Joining}
 use Rattle.cb_trace.specs.Text.{HistoryFields, history_fields}
 use Rattle.cb_trace.specs.JointOrder.{gone, IsOrder, IsJointOrder, NothingTaken}
 use Rattle.cb_trace.specs.JointRun.{IsFirstFrame, AreStepsOf, NoStep, AreLegalWithin}
-use Rattle.cb_trace.specs.Auditing.{seat_of, entries_in, entries_at, longest, AreOfEachMember, AreWrongMembers, IsFirstWrong, IsWrongAnswer, AreLegalHistories, SaysFault, IsJoint, IsAudited, setting_of}
+use Rattle.cb_replay.specs.Replaying.{IsFirstWrong}
+use Rattle.cb_trace.specs.Auditing.{seat_of, entries_in, entries_at, longest, AreOfEachMember, AreWrongMembers, IsWrongAnswer, AreLegalHistories, SaysFault, IsJoint, IsAudited, setting_of}
 use Rattle.cb_trace.specs.Search.{NoneHas, HasLeft, IsFirstLeft, IsJoining, IsJoined}
 use Rattle.cb_trace.proofs.Ordering.{within, greedy_orders_are_orders, joint_order_is_found}
 use Rattle.cb_trace.proofs.JointRuns.{run_has_the_histories}

@@ -8,7 +8,8 @@ use Rattle.cb_history.proofs.Replays.{one_more_is_decided}
 use Rattle.cb_history.proofs.Before.{legal_before_is_legal}
 use Rattle.cb_trace.specs.declared.fault.AuditFault.TheVariants as audits
 use Rattle.cb_trace.specs.Text.{HistoryFields}
-use Rattle.cb_trace.specs.Auditing.{seat_of, entries_at, AreOfEachMember, IsFirstWrong}
+use Rattle.cb_replay.specs.Replaying.{IsFirstWrong}
+use Rattle.cb_trace.specs.Auditing.{seat_of, entries_at, AreOfEachMember}
 use Rattle.cb_trace.specs.BeforeLaws.{OldHistoryIsLegal, OldHistoriesAreLegal, OldTracesAreAudited}
 
 pub old_history_is_legal : OldHistoryIsLegal

@@ -6,11 +6,13 @@ use Rattle.std.proofs.lemmas.Fmt.{decimal_injective}
 use Rattle.std.proofs.lemmas.List.{length-map, append-nil}
 use Rattle.cb_history.specs.Group.{Parameters}
 use Rattle.cb_history.specs.Facts.{EntryFields}
-use Rattle.cb_trace.specs.Text.{HistoryFields, line_of, member_words, member_line, entry_line, last_line, history_lines, trace_lines}
-use Rattle.cb_trace.specs.Bounds.{IsEntry, IsMember, IsHistory, AreHistories, Begins}
+use Rattle.cb_trace.specs.Text.{HistoryFields, member_words, member_line, last_line, history_lines, trace_lines}
+use Rattle.cb_lines.specs.Text.{line_of, entry_line}
+use Rattle.cb_trace.specs.Bounds.{IsMember, IsHistory, AreHistories, Begins}
+use Rattle.cb_lines.specs.Bounds.{IsEntry}
 use Rattle.cb_trace.specs.Reading.{Progress, AtMember, AtEntry, AtEnd, lines_to, AreWhole, IsBegun, KeepsBounds, CanFollow}
 use Rattle.cb_trace.proofs.Cut.{member_line_is_cut}
-use Rattle.cb_trace.proofs.Lists.{same_back, among_more, no_longer}
+use Rattle.cb_lines.proofs.Lists.{same_back, among_more, no_longer}
 
 -- a member's line says one count
 pub one_count : (m c n d : ℕ) → IsMember m c → IsMember n d → member_line m c ≡ member_line n d → c ≡ d

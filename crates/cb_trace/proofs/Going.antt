@@ -1,14 +1,17 @@
 -- How a reader goes on.
 use Rattle.std.proofs.Common.{◌≡◌, ℕ, ◌+◌, ◌≤◌, List, [], ◌∷◌, ◌++◌, length, map, refl, sym, ap, ◌∙◌, arith, append_assoc, length-append, inl, inr}
-use Rattle.std.specs.List.{AllByRecursion, flat_map}
+use Rattle.std.specs.List.{flat_map}
 use Rattle.std.proofs.lemmas.List.{map-append, append-nil}
 use Rattle.std.proofs.lemmas.Grind.{flat_map-append}
 use Rattle.cb_history.specs.Group.{Parameters}
 use Rattle.cb_history.specs.Facts.{EntryFields}
-use Rattle.cb_trace.specs.declared.fault.LineFault.{LineFault}
-use Rattle.cb_trace.specs.declared.fault.LineFault.TheVariants.{NoLine, NoMemory}
-use Rattle.cb_trace.specs.Finding.{FindsNone, IsMemberAndCount, count_line}
-use Rattle.cb_trace.specs.Text.{HistoryFields, member_line, group_line, entry_line, last_line, history_lines}
+use Rattle.cb_lines.specs.declared.fault.LineFault.{LineFault}
+use Rattle.cb_lines.specs.declared.fault.LineFault.TheVariants.{NoLine, NoMemory}
+use Rattle.cb_trace.specs.Finding.{IsMemberAndCount, count_line}
+use Rattle.cb_lines.specs.Finding.{FindsNone}
+use Rattle.cb_trace.specs.Text.{HistoryFields, member_line, last_line, history_lines}
+use Rattle.cb_lines.specs.Text.{group_line, entry_line}
+use Rattle.cb_lines.proofs.Lists.{all_append}
 use Rattle.cb_trace.specs.Bounds.{IsHistory}
 use Rattle.cb_trace.specs.Reading.{Progress, AtMember, AtEntry, AtEnd, lines_to, AreWhole, IsBegun, CanFollow, GoesOn, Stays}
 
@@ -17,10 +20,6 @@ pub no_member_line : (g : Parameters) (hs : List HistoryFields) (line : List ℕ
 no_member_line g hs line NoLine is last none (inl p) = last p
 no_member_line g hs line NoLine is last none (inr m) = none (m.0, m.1) m.2 m.4
 no_member_line g hs line NoMemory is last none can = cc is
-
-pub all_append : {A : Type 0} (P : A → Type 0) (a b : List A) → AllByRecursion P a → AllByRecursion P b → AllByRecursion P (a ++ b)
-all_append P [] b p q = q
-all_append P (x ∷ a) b p q = (p.0, all_append P a b p.1 q)
 
 module _ (g : Parameters) (hs : List HistoryFields) where
   -- a member whose last entry stands is whole

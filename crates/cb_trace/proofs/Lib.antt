@@ -1,7 +1,4 @@
-pub mod Digits
 pub mod Cut
-pub mod Found
-pub mod Lists
 pub mod Following
 pub mod Putting
 pub mod Going
@@ -12,7 +9,6 @@ pub mod Ordering
 pub mod OneOrder
 pub mod Answered
 pub mod JointRuns
-pub mod Replays
 pub mod Frames
 pub mod Searching
 pub mod OneStep

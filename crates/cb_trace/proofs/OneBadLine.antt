@@ -1,10 +1,12 @@
 -- A text has one first bad line.
 use Rattle.std.proofs.Common.{◌≡◌, ℕ, ◌<◌, List, [], ◌∷◌, ◌++◌, length, refl, sym, ap, subst, ◌∙◌, arith, append_assoc}
 use Rattle.std.specs.List.{AllByRecursion}
-use Rattle.cb_trace.specs.Text.{trace_lines, text_of_lines, with_line_feed}
+use Rattle.cb_trace.specs.Text.{trace_lines}
+use Rattle.cb_lines.specs.Text.{text_of_lines, with_line_feed}
 use Rattle.cb_trace.specs.Bounds.{Begins, IsFirstBadLine}
-use Rattle.cb_trace.proofs.Lists.{Free, one_feed}
-use Rattle.cb_trace.proofs.Reaching.{all_front, trace_is_free}
+use Rattle.cb_lines.proofs.Lists.{Free, one_feed}
+use Rattle.cb_trace.proofs.Reaching.{trace_is_free}
+use Rattle.cb_lines.proofs.Lists.{all_front}
 
 -- lines at the front of a text, of which others are the first
 record Shorter (a b : List (List ℕ)) (x y : List ℕ) : Type 0 where

@@ -1,25 +1,27 @@
 -- What a reader knows of the whole text, and what it says of it in the end.
 use Rattle.std.proofs.Common.{◌≡◌, ℕ, zero, suc, ◌+◌, ◌<◌, List, [], ◌∷◌, ◌++◌, length, map, refl, sym, ap, subst, ◌∙◌, arith, append_assoc, length-append, Err}
 use Rattle.std.specs.Prelude.{slice_index}
-use Rattle.std.specs.List.{AllByRecursion, Contains, flat_map, join_with_byte}
+use Rattle.std.specs.List.{AllByRecursion, Contains, flat_map}
 use Rattle.std.proofs.lemmas.List.{map-append, append-nil}
 use Rattle.std.proofs.lemmas.Grind.{flat_map-append}
 use Rattle.cb_history.specs.Group.{Parameters, AreParameters}
 use Rattle.cb_history.specs.Facts.{EntryFields, TickEntry}
-use Rattle.cb_trace.specs.Text.{HistoryFields, line_of, space, group_words, group_line, member_words, member_line, entry_words, entry_line, last_line, history_lines, trace_lines, text_of_lines, with_line_feed}
-use Rattle.cb_trace.specs.Bounds.{IsEntry, IsMember, IsHistory, AreHistories, IsTrace, Begins, IsFirstBadLine}
-use Rattle.cb_trace.specs.Reading.{Progress, AtMember, AtEntry, AtEnd, lines_to, AreWhole, IsBegun, KeepsBounds, CanFollow, GoesOn, IsCut, ReadTo, Reads, progress_at, IsAtEnd as StandsAtEnd}
+use Rattle.cb_trace.specs.Text.{HistoryFields, member_line, last_line, history_lines, trace_lines}
+use Rattle.cb_lines.specs.Text.{group_line, entry_line, text_of_lines}
+use Rattle.cb_trace.specs.Bounds.{IsHistory, AreHistories, IsTrace, Begins, IsFirstBadLine}
+use Rattle.cb_lines.specs.Bounds.{IsEntry}
+use Rattle.cb_trace.specs.Reading.{Progress, AtMember, AtEntry, AtEnd, lines_to, AreWhole, IsBegun, KeepsBounds, CanFollow, GoesOn, ReadTo, Reads, progress_at, IsAtEnd as StandsAtEnd}
+use Rattle.cb_lines.specs.Text.{IsCut}
 use Rattle.cb_trace.specs.declared.reading.Place.{Place}
 use Rattle.cb_trace.specs.declared.reading.Place.TheVariants as places
-use Rattle.cb_trace.specs.declared.fault.LineFault.{LineFault}
-use Rattle.cb_trace.specs.declared.fault.LineFault.TheVariants.{NoLine, NoMemory}
+use Rattle.cb_lines.specs.declared.fault.LineFault.{LineFault}
+use Rattle.cb_lines.specs.declared.fault.LineFault.TheVariants.{NoLine, NoMemory}
 use Rattle.cb_trace.specs.FaultText.{fault_at}
-use Rattle.cb_trace.specs.Finding.{FindsNone}
-use Rattle.cb_trace.proofs.Digits.{Above, above_less, above_append}
-use Rattle.cb_trace.proofs.Cut.{AreWords, group_words_are, member_words_are, entry_words_are}
-use Rattle.cb_trace.proofs.Lists.{Free, free_from_none, free_from_above, one_feed, has_feed}
+use Rattle.cb_lines.specs.Finding.{FindsNone}
+use Rattle.cb_trace.proofs.Cut.{member_is_free}
+use Rattle.cb_lines.proofs.Lists.{Free, free_from_none, one_feed, has_feed, all_append, all_front, all_back}
+use Rattle.cb_lines.proofs.Lines.{group_is_free, entries_are_free, Fronted, fronted, no_lines, one_line, line_more}
 use Rattle.cb_trace.proofs.Following.{can_follow, is_whole, IsAtEnd}
-use Rattle.cb_trace.proofs.Going.{all_append}
 
 -- ---- every progress is the beginning of a trace
 
@@ -79,31 +81,6 @@ begins (AtEnd g hs) b = (g, hs, [], b, sym (append-nil (trace_lines g hs)))
 
 -- ---- no line has a line feed
 
-line_is_free : (words : List (List ℕ)) → AreWords words → Free (line_of words)
-unfolding line_of
-line_is_free words are = free_from_above (join_with_byte space words) (above words are)
-  where
-    above : (words : List (List ℕ)) → AreWords words → Above 31 (join_with_byte space words)
-    above [] are = tt
-    above (w ∷ []) are = above_less 31 32 w (omega arith) are.0
-    above (w ∷ v ∷ words) are = above_append 31 w _ (above_less 31 32 w (omega arith) are.0) (omega arith, above (v ∷ words) are.1)
-
-group_is_free : (g : Parameters) → AreParameters g → Free (group_line g)
-unfolding group_line
-group_is_free g is = line_is_free (group_words g) (group_words_are g is)
-
-member_is_free : (me count : ℕ) → IsMember me count → Free (member_line me count)
-unfolding member_line
-member_is_free me count is = line_is_free (member_words me count) (member_words_are me count is)
-
-entry_is_free : (e : EntryFields) → IsEntry e → Free (entry_line e)
-unfolding entry_line
-entry_is_free e is = line_is_free (entry_words e) (entry_words_are e is)
-
-entries_are_free : (es : List EntryFields) → AllByRecursion IsEntry es → AllByRecursion Free (map entry_line es)
-entries_are_free [] each = tt
-entries_are_free (e ∷ es) each = (entry_is_free e each.0, entries_are_free es each.1)
-
 histories_are_free : (g : Parameters) (hs : List HistoryFields) → AllByRecursion (IsHistory g) hs → AllByRecursion Free (flat_map history_lines hs)
 histories_are_free g [] each = tt
 histories_are_free g (h ∷ hs) each = (member_is_free h.me (length h.entries) each.0.member, all_append Free (map entry_line h.entries) (flat_map history_lines hs) (entries_are_free h.entries each.0.each) (histories_are_free g hs each.1))
@@ -111,60 +88,12 @@ histories_are_free g (h ∷ hs) each = (member_is_free h.me (length h.entries) e
 pub trace_is_free : (g : Parameters) (hs : List HistoryFields) → AreHistories g hs → AllByRecursion Free (trace_lines g hs)
 trace_is_free g hs are = (group_is_free g are.parameters, all_append Free (flat_map history_lines hs) (last_line ∷ []) (histories_are_free g hs are.each) ((refl, (refl, (refl, tt))), tt))
 
-pub all_front : {A : Type 0} (P : A → Type 0) (a b : List A) → AllByRecursion P (a ++ b) → AllByRecursion P a
-all_front P [] b each = tt
-all_front P (x ∷ a) b each = (each.0, all_front P a b each.1)
-
 progress_is_free : (p : Progress) → KeepsBounds p → AllByRecursion Free (lines_to p)
 progress_is_free p bounds =
     let b = begins p bounds in
     all_front Free (lines_to p) b.2 (subst (AllByRecursion Free) b.4 (trace_is_free b.0 b.1 b.3))
 
 -- ---- lines of a text
-
--- lines at the front of a text are its first
-record Fronted (good lines : List (List ℕ)) (rest : List ℕ) : Type 0 where
-  more : List (List ℕ)
-  are : lines ≡ good ++ more
-  free : AllByRecursion Free more
-  text : text_of_lines more ≡ rest
-
-fronted : (good lines : List (List ℕ)) (rest : List ℕ) → AllByRecursion Free good → AllByRecursion Free lines → text_of_lines lines ≡ text_of_lines good ++ rest → Fronted good lines rest
-unfolding text_of_lines
-fronted [] lines rest f g e = record { more = lines; are = refl; free = g; text = e }
-fronted (x ∷ good) [] rest f g e = absurd (nothing x (text_of_lines good) rest e)
-  where
-    nothing : (x a rest : List ℕ) → ¬ ([] ≡ ((x ++ 10 ∷ []) ++ a) ++ rest)
-    nothing [] a rest e = cc e
-    nothing (b ∷ x) a rest e = cc e
-fronted (x ∷ good) (y ∷ lines) rest f g e =
-    let left : with_line_feed y ++ text_of_lines lines ≡ y ++ 10 ∷ text_of_lines lines = append_assoc y (10 ∷ []) (text_of_lines lines) in
-    let right : (with_line_feed x ++ text_of_lines good) ++ rest ≡ x ++ 10 ∷ (text_of_lines good ++ rest) =
-    append_assoc (with_line_feed x) (text_of_lines good) rest ∙ append_assoc x (10 ∷ []) (text_of_lines good ++ rest) in
-    let one = one_feed y x (text_of_lines lines) (text_of_lines good ++ rest) g.0 f.0 (sym left ∙ e ∙ right) in
-    let behind = fronted good lines rest f.1 g.1 one.1 in
-    record { more = behind.more; are = ap (λ (l : List ℕ). l ∷ lines) one.0 ∙ ap (λ (ls : List (List ℕ)). x ∷ ls) behind.are; free = behind.free; text = behind.text }
-
-all_back : {A : Type 0} (P : A → Type 0) (a b : List A) → AllByRecursion P (a ++ b) → AllByRecursion P b
-all_back P [] b each = each
-all_back P (x ∷ a) b each = all_back P a b each.1
-
-no_lines : text_of_lines [] ≡ []
-unfolding text_of_lines
-no_lines = refl
-
-one_line : (line : List ℕ) (lines : List (List ℕ)) → text_of_lines (line ∷ lines) ≡ line ++ 10 ∷ text_of_lines lines
-unfolding text_of_lines
-one_line line lines = append_assoc line (10 ∷ []) (flat_map with_line_feed lines)
-
-line_more : (good : List (List ℕ)) (line after : List ℕ) → text_of_lines good ++ (line ++ 10 ∷ after) ≡ text_of_lines (good ++ line ∷ []) ++ after
-unfolding text_of_lines
-line_more good line after =
-    let front = flat_map with_line_feed good in
-    let l = with_line_feed line in
-    let right : flat_map with_line_feed (good ++ line ∷ []) ++ after ≡ front ++ (l ++ after) =
-    ap (λ (t : List ℕ). t ++ after) (flat_map-append with_line_feed good (line ∷ []) ∙ ap (λ (t : List ℕ). front ++ t) (append-nil l)) ∙ append_assoc front l after in
-    ap (λ (t : List ℕ). front ++ t) (sym (append_assoc line (10 ∷ []) after)) ∙ sym right
 
 begins_earlier : (lines : List (List ℕ)) → Begins lines → Begins []
 begins_earlier lines b = (b.0, b.1, trace_lines b.0 b.1, b.3, refl)

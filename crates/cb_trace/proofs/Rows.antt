@@ -6,7 +6,8 @@ use Rattle.hex.proofs.OnLiterals.{hex_on_literals}
 use Rattle.cb_times.specs.declared.name.Name.{Name}
 use Rattle.cb_history.specs.Group.{Parameters}
 use Rattle.cb_history.specs.Facts.{CastEntry, ArriveEntry, TickEntry}
-use Rattle.cb_trace.specs.Text.{HistoryFields, line_of, group_line, member_line, entry_line, trace_lines, text_of_lines}
+use Rattle.cb_trace.specs.Text.{HistoryFields, member_line, trace_lines}
+use Rattle.cb_lines.specs.Text.{line_of, group_line, entry_line, text_of_lines}
 
 abbrev group : Parameters
 group = record { number = 7; size = 3; window = 4 }

@@ -1,9 +1,9 @@
 -- What the audit of histories answers.
-use Rattle.std.specs.Prelude.{◌≡◌, ◌≢◌, ℕ, ◌+◌, ◌<◌, max, List, [], ◌∷◌, ◌++◌, length, slice_get, Option, Some, None}
+use Rattle.std.specs.Prelude.{◌≡◌, ℕ, ◌+◌, ◌<◌, max, List, [], ◌∷◌, length, slice_get, Option, Some, None}
 use Rattle.cb_history.specs.Group.{Parameters, AreParameters, Identity}
 use Rattle.cb_history.specs.Facts.{EntryFields}
-use Rattle.cb_history.specs.Legal.{longest_history, entry_of, IsLegal}
-use Rattle.cb_history.specs.ReplayLaws.{call_of}
+use Rattle.cb_history.specs.Legal.{IsLegal}
+use Rattle.cb_replay.specs.Replaying.{IsFirstWrong}
 use Rattle.cb_schedules.specs.Schedule.{Setting, Schedule}
 use Rattle.cb_schedules.specs.Headline.{Headline}
 use Rattle.cb_world.specs.World.{WorldState, run_in}
@@ -43,17 +43,6 @@ abbrev pub AreWrongMembers : List HistoryFields → Type 0
 AreWrongMembers histories = (group : Parameters) → ¬ AreOfEachMember group histories
 
 -- ---- legal histories
-
--- The first entry that a fresh member, replaying those before it, does not give: these are a legal history, and the call that this one
--- tells adds another entry to them, or none.
-pub record IsFirstWrong (seat : Identity) (entries : List EntryFields) (number : ℕ) : Type 0 where
-  pub before : List EntryFields
-  pub wrong : EntryFields
-  pub after : List EntryFields
-  pub parts : entries ≡ before ++ wrong ∷ after
-  pub place : number ≡ length before + 1
-  pub legal : IsLegal seat before
-  pub not_given : entry_of seat longest_history before (call_of wrong) ≢ Some wrong
 
 -- the histories before that of this member are legal, and this is the first wrong entry of this one
 pub record IsWrongAnswer (histories : List HistoryFields) (member entry : ℕ) : Type 0 where

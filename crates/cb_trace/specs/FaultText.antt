@@ -3,8 +3,8 @@ use Rattle.std.specs.Prelude.{ℕ, List, ◌++◌, codes}
 use Rattle.std.specs.Fmt.{decimal}
 use Rattle.cb_trace.specs.declared.fault.TraceFault.{TraceFault}
 use Rattle.cb_trace.specs.declared.fault.TraceFault.TheVariants as traces
-use Rattle.cb_trace.specs.declared.fault.LineFault.{LineFault}
-use Rattle.cb_trace.specs.declared.fault.LineFault.TheVariants as lines
+use Rattle.cb_lines.specs.declared.fault.LineFault.{LineFault}
+use Rattle.cb_lines.specs.declared.fault.LineFault.TheVariants as lines
 use Rattle.cb_trace.specs.declared.fault.AuditFault.{AuditFault}
 use Rattle.cb_trace.specs.declared.fault.AuditFault.TheVariants as audits
 use Rattle.cb_trace.specs.declared.fault.QueryFault.{QueryFault}

@@ -9,7 +9,6 @@ pub mod JointRun
 pub mod AuditLaws
 pub mod Auditing
 pub mod BeforeLaws
-pub mod Loads
 pub mod Replaying
 pub mod Search
 pub mod Asking

@@ -1,7 +1,7 @@
 -- Where a reader is in a trace that it reads line by line.
 use Rattle.std.specs.Prelude.{◌≡◌, ℕ, ◌+◌, ◌<◌, ◌≤◌, List, [], ◌∷◌, ◌++◌, ◌⊎◌, length, map, Result, Ok, Err, Vec}
 use Rattle.std.specs.declared.alloc.Global.{Global}
-use Rattle.std.specs.List.{flat_map, AllByRecursion, Contains}
+use Rattle.std.specs.List.{flat_map, AllByRecursion}
 use Rattle.cb_times.specs.declared.group.TheConstants.{MOST_MEMBERS}
 use Rattle.cb_history.specs.Group.{Parameters, AreParameters}
 use Rattle.cb_history.specs.Facts.{EntryFields, entry_fields}
@@ -11,8 +11,10 @@ use Rattle.cb_trace.specs.declared.fault.TraceFault.TheVariants.{BadLine, NoMemo
 use Rattle.cb_trace.specs.declared.reading.Reading.{Reading}
 use Rattle.cb_trace.specs.declared.reading.Place.{Place}
 use Rattle.cb_trace.specs.declared.reading.Place.TheVariants as places
-use Rattle.cb_trace.specs.Text.{HistoryFields, history_fields, history_lines, group_line, member_line, entry_line, last_line, line_feed, trace_lines, text_of_lines}
-use Rattle.cb_trace.specs.Bounds.{IsEntry, IsMember, IsHistory, AreHistories, IsTrace, IsFirstBadLine}
+use Rattle.cb_trace.specs.Text.{HistoryFields, history_fields, history_lines, member_line, last_line, trace_lines}
+use Rattle.cb_lines.specs.Text.{group_line, entry_line, text_of_lines}
+use Rattle.cb_trace.specs.Bounds.{IsMember, IsHistory, AreHistories, IsTrace, IsFirstBadLine}
+use Rattle.cb_lines.specs.Bounds.{IsEntry}
 
 -- behind whole members of a group; within the entries of a member, of which so many are still to come; at the end
 pub data Progress : Type 0 where
@@ -77,11 +79,6 @@ pub record GoesOn (before now : Progress) (line : List ℕ) : Type 0 where
 pub record Stays (before now : Progress) : Type 0 where
   pub bounds : KeepsBounds now
   pub lines : lines_to now ≡ lines_to before
-
--- the first line, and the bytes behind its line feed
-pub record IsCut (text line after : List ℕ) : Type 0 where
-  pub parts : text ≡ line ++ line_feed ∷ after
-  pub whole : ¬ Contains line line_feed
 
 -- The reader has come to this place of the text, and the next line has this number.
 pub record ReadTo (text rest : List ℕ) (p : Progress) (number : ℕ) : Type 0 where

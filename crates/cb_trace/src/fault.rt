@@ -4,11 +4,11 @@ ghost use Rattle.std.specs.Prelude.{◌≡◌, Some};
 ghost use Rattle.cb_trace.specs.declared.fault.TraceFault.TheVariants.{NoMemory};
 ghost use Rattle.cb_trace.specs.declared.fault.WriteFault.TheVariants.{NoMemory as WriteNoMemory};
 ghost use Rattle.cb_trace.specs.declared.fault.AuditFault.TheVariants.{NoMemory as AuditNoMemory};
-ghost use Rattle.cb_trace.specs.declared.fault.LineFault.TheVariants.{NoMemory as LineNoMemory};
 ghost use Rattle.cb_trace.specs.FaultText.{audit_fault_text, fault_at, query_fault_text};
 ghost use Rattle.cb_trace.specs.FaultText.{trace_fault_text, write_fault_text};
 
-use std::alloc::{AllocError, AllocFailed};
+use cb_lines::LineFault;
+use std::alloc::AllocError;
 use std::error::Error;
 use std::fmt;
 
@@ -55,19 +55,12 @@ pub enum QueryFault {
     NoMemory,
 }
 
-/// Why a line or a word of it was not read: it is not what must stand there, or an allocation was refused.
-#[derive(Clone, Copy, Debug, PartialEq, Eq)]
-pub(crate) enum LineFault {
-    NoLine,
-    NoMemory,
-}
-
-impl LineFault {
-    /// The fault of a text in which this line has it.
-    pub(crate) fn at(self, line: u64) -> TraceFault
-        ensures { result ≡ fault_at self line }
+impl TraceFault {
+    /// The fault of a text in which this line has that fault.
+    pub(crate) fn at(fault: LineFault, line: u64) -> TraceFault
+        ensures { result ≡ fault_at fault line }
     {
-        match self {
+        match fault {
             LineFault::NoLine => TraceFault::BadLine { line },
             LineFault::NoMemory => TraceFault::NoMemory,
         }
@@ -95,22 +88,6 @@ impl From<AllocError> for AuditFault {
 
     fn from(_refused: AllocError) -> AuditFault {
         AuditFault::NoMemory
-    }
-}
-
-impl From<AllocError> for LineFault {
-    ghost from_gives = { λ _ e. e ≡ LineNoMemory };
-
-    fn from(_refused: AllocError) -> LineFault {
-        LineFault::NoMemory
-    }
-}
-
-impl<T: Drop> From<AllocFailed<T>> for LineFault {
-    ghost from_gives = { λ _ e. e ≡ LineNoMemory };
-
-    fn from(_refused: AllocFailed<T>) -> LineFault {
-        LineFault::NoMemory
     }
 }
 

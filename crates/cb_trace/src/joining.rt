@@ -4,7 +4,8 @@ ghost use Rattle.std.specs.Prelude.{◌≡◌, ◌<◌, ◌≤◌, ℕ, List, le
 ghost use Rattle.std.specs.Prelude.{IfOk, OnOk, MatchOption};
 ghost use Rattle.cb_history.specs.Facts.{entry_fields};
 ghost use Rattle.cb_history.specs.Legal.{longest_history};
-ghost use Rattle.cb_schedules.specs.Schedule.{SentFrame};
+ghost use Rattle.cb_schedules.specs.Schedule.{CastStep, SentFrame};
+ghost use Rattle.cb_replay.specs.Loads.{load_fields};
 ghost use Rattle.cb_world.specs.Outcomes.{sent_fields};
 ghost use Rattle.cb_world.specs.Steps.{member_of, step_fields};
 ghost use Rattle.cb_world.specs.World.{run_in};
@@ -15,9 +16,9 @@ ghost use Rattle.cb_trace.specs.Search.{IsJoined, HasLeft, IsFirstLeft};
 ghost use Rattle.cb_trace.specs.JointRun.{AreLegalWithin};
 ghost use Rattle.cb_trace.specs.Auditing.{entries_at};
 
-use crate::load::Load;
 use bytes::Bytes;
 use cb_member::{Entry, History, NoMemory};
+use cb_replay::Load;
 use cb_world::{Sent, Step, World};
 use indexmap::IndexMap;
 use std::alloc::Global;
@@ -49,13 +50,23 @@ fn step_of(
     match entry {
         Entry::Cast { frame } => {
             let load = Load::of(alloc, frame)?;
-            Ok(Some(load.step(k)))
+            Ok(Some(cast_step(k, load)))
         }
         Entry::Arrive { frame, .. } => match number_of(first_frames, frame) {
             Some(number) => Ok(Some(Step::Arrive(k, number))),
             None => Ok(None),
         },
         Entry::Tick { .. } => Ok(Some(Step::Tick(k))),
+    }
+}
+
+/// The step in which member k casts the load.
+fn cast_step(k: u32, load: Load) -> Step
+    ensures { step_fields result ≡ CastStep k (load_fields load) }
+{
+    match load {
+        Load::One(payload) => Step::Cast(k, payload),
+        Load::Many(payloads) => Step::Burst(k, payloads),
     }
 }
 

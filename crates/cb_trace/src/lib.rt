@@ -6,8 +6,8 @@
 //! `audit` looks for a run of the group in which each member did what its history says. Where it finds one, the histories are those of a
 //! schedule's run, and all that is true after every schedule is true of them, whatever threads and links made them.
 //!
-//! Stands on `cb_history` for histories and on `cb_times` for names; the text takes frames as bytes and does not look into them. The audit
-//! stands on `cb_member`, which makes the calls of a history again, and on `cb_world`, which makes the run.
+//! Stands on `cb_history` for histories and on `cb_lines` for the lines of groups and entries. The audit stands on `cb_member`, which makes
+//! the calls of a history again, and on `cb_world`, which makes the run.
 #![tactic(auto)]
 
 mod auditing;
@@ -15,11 +15,9 @@ mod fault;
 mod joining;
 mod joint;
 mod laws;
-mod load;
 mod reading;
 mod replaying;
 mod spelling;
-mod words;
 mod writing;
 
 pub use auditing::audit;

@@ -1,21 +1,20 @@
 //! The text of a trace, read line by line. Time grows with the length of the text, and no line is looked at twice.
 
 ghost use Rattle.std.specs.Prelude.{◌≡◌, List, ℕ, ◌≤◌, [], Err, IfOk, IfErr, OnOk, MatchOption, map};
-ghost use Rattle.std.specs.List.{Contains};
-ghost use Rattle.memchr.specs.Find.{IsFirstByte, is_byte};
 ghost use Rattle.cb_history.specs.Group.{AreParameters};
 ghost use Rattle.cb_history.specs.Facts.{EntryFields, entry_fields};
-ghost use Rattle.cb_trace.specs.declared.fault.LineFault.TheVariants.{NoLine, NoMemory};
-ghost use Rattle.cb_trace.specs.Text.{HistoryFields, history_fields, entry_line, last_line, line_feed};
-ghost use Rattle.cb_trace.specs.Bounds.{IsTrace, IsEntry};
-ghost use Rattle.cb_trace.specs.Reading.{progress_of, AtMember, AtEntry, IsAtEnd, AreWhole, IsBegun, KeepsBounds, CanFollow, GoesOn, Stays, IsCut, ReadTo, Reads, Gives};
+ghost use Rattle.cb_lines.specs.declared.fault.LineFault.TheVariants.{NoLine, NoMemory};
+ghost use Rattle.cb_trace.specs.Text.{HistoryFields, history_fields, last_line};
+ghost use Rattle.cb_lines.specs.Text.{entry_line};
+ghost use Rattle.cb_trace.specs.Bounds.{IsTrace};
+ghost use Rattle.cb_lines.specs.Bounds.{IsEntry};
+ghost use Rattle.cb_trace.specs.Reading.{progress_of, AtMember, AtEntry, IsAtEnd, AreWhole, IsBegun, KeepsBounds, CanFollow, GoesOn, Stays, ReadTo, Reads, Gives};
 
-use crate::fault::{LineFault, TraceFault};
-use crate::spelling::{entry_of, group_of, member_of};
-use crate::words::is;
+use crate::fault::TraceFault;
+use crate::spelling::member_of;
 use cb_history::{Entry, Group, History};
+use cb_lines::{LineFault, entry_of, first_line, group_of, is};
 use cb_times::MOST_MEMBERS;
-use memchr::memchr;
 use std::alloc::Global;
 use std::mem;
 
@@ -143,16 +142,6 @@ impl Reading {
     }
 }
 
-/// The first line, without its line feed, and what stands behind that.
-fn first_line(text: &[u8]) -> Option<(&[u8], &[u8])>
-    ensures { MatchOption result (¬ Contains text.now line_feed) (λ cut.
-        IsCut text.now cut.0.now cut.1.now) }
-{
-    let end = memchr(b'\n', text)?;
-    let (line, after) = text.split_at(end);
-    Some((line, &after[1..]))
-}
-
 /// The histories of a trace: the whole text is theirs, and theirs alone.
 ///
 /// A history that is read need not be one that a member can have; only its group, its numbers and its names are within the limits.
@@ -176,7 +165,7 @@ fn read(alloc: Global, text: &[u8]) -> Result<Vec<History>, TraceFault>
     };
     match group_of(alloc, first) {
         Ok(group) => members_of(alloc, group, rest),
-        Err(fault) => Err(fault.at(1)),
+        Err(fault) => Err(TraceFault::at(fault, 1)),
     }
 }
 
@@ -190,7 +179,7 @@ fn members_of(alloc: Global, group: Group, text: &[u8]) -> Result<Vec<History>, 
     let mut line: u64 = 2;
     'lines: while let Some((next, after)) = first_line(rest) {
         if let Err(fault) = reading.take(alloc, next) {
-            return Err(fault.at(line));
+            return Err(TraceFault::at(fault, line));
         }
         rest = after;
         line += 1;

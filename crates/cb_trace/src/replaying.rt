@@ -1,23 +1,12 @@
-//! A history is replayed by a fresh member, entry by entry.
+//! A history is replayed by a new member.
 
-ghost use Rattle.std.specs.Prelude.{◌≡◌, ◌<◌, [], IfOk, Some, map, option_map};
-ghost use Rattle.std.specs.Bool.{Decides};
-ghost use Rattle.cb_frames.specs.Fields.{One};
+ghost use Rattle.std.specs.Prelude.{◌<◌, IfOk, map};
 ghost use Rattle.cb_history.specs.Facts.{entry_fields};
-ghost use Rattle.cb_history.specs.Legal.{longest_history, ToCast, ToTake, ToTick};
-ghost use Rattle.cb_history.specs.Load.{many_of};
-ghost use Rattle.cb_history.specs.ReplayLaws.{call_of};
 ghost use Rattle.cb_trace.specs.Auditing.{seat_of};
-ghost use Rattle.cb_trace.specs.Loads.{load_fields};
-ghost use Rattle.cb_trace.specs.Replaying.{SaysAdded, SaysFirstWrong};
+ghost use Rattle.cb_trace.specs.Replaying.{SaysFirstWrong};
 
-use crate::load::Load;
-use bytes::Bytes;
-use cb_member::{
-    ArriveRefusal, BurstRefusal, CastRefusal, Entry, History, LONGEST_HISTORY, Member, Name,
-    NewFault, NoMemory, TickRefusal,
-};
-use cb_world::payload_slices;
+use cb_member::{History, LONGEST_HISTORY, Member, NewFault, NoMemory};
+use cb_replay::replay;
 use std::alloc::{AllocError, Global};
 
 /// The number of the first entry that a fresh member does not give, called as the entries tell; `None` where the history is legal.
@@ -35,131 +24,4 @@ pub fn first_wrong(alloc: Global, history: &History) -> Result<Option<usize>, No
         Err(NewFault::NoMemory) => Err(AllocError),
         Err(_fault) => unreachable!("it is a member of the group"),
     }
-}
-
-/// The entries are to be those of this member, which has none yet.
-fn replay(alloc: Global, member: &mut Member, entries: &[Entry]) -> Result<Option<usize>, NoMemory>
-    requires new { member.old.entries ≡ [] }
-    requires limit { member.old.limit ≡ longest_history }
-    ensures { IfOk result (SaysFirstWrong member.old.seat (map entry_fields entries.now)) }
-{
-    for entry in entries {
-        let given = member.history().len();
-        if !gives(alloc, member, entry)? {
-            return Ok(Some(given + 1));
-        }
-    }
-    let _legal = member.history();
-    Ok(None)
-}
-
-/// Whether the call that the entry tells adds just this entry.
-fn gives(alloc: Global, member: &mut Member, entry: &Entry) -> Result<bool, NoMemory>
-    ensures { IfOk result (SaysAdded member.old member.new (call_of (entry_fields entry.now))
-        (entry_fields entry.now)) }
-{
-    match entry {
-        Entry::Cast { frame } => {
-            let load = Load::of(alloc, frame)?;
-            casts_load(alloc, member, &load, entry)
-        }
-        Entry::Arrive { frame, .. } => takes(member, frame, entry),
-        Entry::Tick { .. } => ticks(member, entry),
-    }
-}
-
-fn casts_load(
-    alloc: Global,
-    member: &mut Member,
-    load: &Load,
-    entry: &Entry,
-) -> Result<bool, NoMemory>
-    ensures { IfOk result (SaysAdded member.old member.new (ToCast (load_fields load.now))
-        (entry_fields entry.now)) }
-{
-    match load {
-        Load::One(payload) => casts(member, payload.as_slice(), entry),
-        Load::Many(payloads) => {
-            let slices = payload_slices(alloc, payloads)?;
-            casts_burst(member, &slices, entry)
-        }
-    }
-}
-
-fn casts(member: &mut Member, payload: &[u8], entry: &Entry) -> Result<bool, NoMemory>
-    ensures { IfOk result (SaysAdded member.old member.new (ToCast (One payload.now))
-        (entry_fields entry.now)) }
-{
-    match member.cast_noted(payload) {
-        Ok((_done, noted)) => Ok(is_same(&noted, entry)),
-        Err(CastRefusal::NoMemory) => Err(AllocError),
-        Err(_refusal) => Ok(false),
-    }
-}
-
-fn casts_burst(member: &mut Member, payloads: &[&[u8]], entry: &Entry) -> Result<bool, NoMemory>
-    ensures { IfOk result (SaysAdded member.old member.new (ToCast (many_of payloads.now))
-        (entry_fields entry.now)) }
-{
-    match member.cast_burst_noted(payloads) {
-        Ok((_done, noted)) => Ok(is_same(&noted, entry)),
-        Err(BurstRefusal::NoMemory) => Err(AllocError),
-        Err(_refusal) => Ok(false),
-    }
-}
-
-fn takes(member: &mut Member, frame: &Bytes, entry: &Entry) -> Result<bool, NoMemory>
-    ensures { IfOk result (SaysAdded member.old member.new (ToTake frame.now)
-        (entry_fields entry.now)) }
-{
-    match member.arrive_noted(frame) {
-        Ok((_arrival, noted)) => Ok(is_noted(noted, entry)),
-        Err(ArriveRefusal::NoMemory) => Err(AllocError),
-        Err(_refusal) => Ok(false),
-    }
-}
-
-fn ticks(member: &mut Member, entry: &Entry) -> Result<bool, NoMemory>
-    ensures { IfOk result (SaysAdded member.old member.new ToTick (entry_fields entry.now)) }
-{
-    match member.tick_noted() {
-        Ok((_ticked, noted)) => Ok(is_noted(noted, entry)),
-        Err(TickRefusal::NoMemory) => Err(AllocError),
-        Err(_refusal) => Ok(false),
-    }
-}
-
-fn is_noted(noted: Option<Entry>, entry: &Entry) -> bool
-    ensures { Decides result (option_map entry_fields noted ≡ Some (entry_fields entry.now)) }
-{
-    match noted {
-        Some(noted) => is_same(&noted, entry),
-        None => false,
-    }
-}
-
-fn is_same(entry: &Entry, other: &Entry) -> bool
-    ensures { Decides result (entry_fields entry.now ≡ entry_fields other.now) }
-{
-    match (entry, other) {
-        (Entry::Cast { frame: a }, Entry::Cast { frame: b }) => a == b,
-        (Entry::Tick { status: a }, Entry::Tick { status: b }) => a == b,
-        (
-            Entry::Arrive {
-                frame: a,
-                delivered,
-            },
-            Entry::Arrive {
-                frame: b,
-                delivered: others,
-            },
-        ) => a == b && are_same_names(delivered, others),
-        _ => false,
-    }
-}
-
-fn are_same_names(names: &[Name], others: &[Name]) -> bool
-    ensures { Decides result (names.now ≡ others.now) }
-{
-    names == others
 }

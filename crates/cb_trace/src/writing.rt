@@ -1,21 +1,19 @@
 //! Histories to the text of their trace.
 
-ghost use Rattle.std.specs.Prelude.{◌≡◌, ◌∷◌, ◌++◌, ◌↔◌, [], codes, Err, IfOk, OnOk, map};
+ghost use Rattle.std.specs.Prelude.{◌≡◌, ◌++◌, ◌↔◌, Err, IfOk, OnOk, map};
 ghost use Rattle.std.specs.List.{flat_map, AllByRecursion};
 ghost use Rattle.std.specs.Bool.{Decides};
-ghost use Rattle.std.specs.Fmt.{decimal};
-ghost use Rattle.hex.specs.Hex.{encode_lower};
-ghost use Rattle.cb_times.specs.Name.{name_text};
 ghost use Rattle.cb_history.specs.Group.{Parameters};
 ghost use Rattle.cb_history.specs.Facts.{entry_fields};
 ghost use Rattle.cb_trace.specs.declared.fault.WriteFault.TheVariants.{MixedGroups};
-ghost use Rattle.cb_trace.specs.Text.{space, history_fields, delivered_words, group_line, member_line, entry_line, history_lines, trace_lines, text_of_lines};
+ghost use Rattle.cb_trace.specs.Text.{history_fields, member_line, history_lines, trace_lines};
+ghost use Rattle.cb_lines.specs.Text.{entry_line, text_of_lines};
 ghost use Rattle.cb_trace.specs.Bounds.{AreHistories, IsTrace, IsTextOf, AreMixed};
 
 use crate::fault::WriteFault;
-use bytes::Bytes;
 use cb_history::{Entry, Group, History};
-use cb_times::{Name, NoMemory};
+use cb_lines::{put_entry, put_group, put_number};
+use cb_times::NoMemory;
 use itoa::Buffer;
 use std::alloc::Global;
 
@@ -52,7 +50,7 @@ fn share_group(histories: &[History], group: Group) -> bool
     true
 }
 
-#[tactic(auto, unfolding(crate::specs::Text::text_of_lines))]
+#[tactic(auto, unfolding(cb_lines::specs::Text::text_of_lines))]
 fn spelled(alloc: Global, group: Group, histories: &[History]) -> Result<Vec<u8>, NoMemory>
     ensures { IfOk result (λ text. text.items
         ≡ text_of_lines (trace_lines group (map history_fields histories.now))) }
@@ -65,26 +63,8 @@ fn spelled(alloc: Global, group: Group, histories: &[History]) -> Result<Vec<u8>
     Ok(out)
 }
 
-/// The line of a group, without its line feed.
-#[tactic(auto, unfolding(crate::specs::Text::group_line, crate::specs::Text::line_of))]
-pub fn put_group(out: &mut Vec<u8>, group: Group) -> Result<(), NoMemory>
-    ensures { OnOk result (out.new.items ≡ out.old.items ++ group_line group) }
-{
-    put_parameter(out, b"cbcast 1 group ", group.number())?;
-    put_parameter(out, b" size ", group.size())?;
-    put_parameter(out, b" window ", group.window())
-}
-
-/// A number behind its words.
-fn put_parameter(out: &mut Vec<u8>, words: &[u8], number: u32) -> Result<(), NoMemory>
-    ensures { OnOk result (out.new.items ≡ out.old.items ++ words.now ++ decimal number) }
-{
-    out.extend_from_slice(words)?;
-    put_number(out, number)
-}
-
 /// The line of a member with so many entries, without its line feed.
-#[tactic(auto, unfolding(crate::specs::Text::member_line, crate::specs::Text::line_of))]
+#[tactic(auto, unfolding(crate::specs::Text::member_line, cb_lines::specs::Text::line_of))]
 pub fn put_member(out: &mut Vec<u8>, me: u32, count: usize) -> Result<(), NoMemory>
     ensures { OnOk result (out.new.items ≡ out.old.items ++ member_line me count) }
 {
@@ -94,7 +74,7 @@ pub fn put_member(out: &mut Vec<u8>, me: u32, count: usize) -> Result<(), NoMemo
     out.extend_from_slice(Buffer::new().format(count).as_bytes())
 }
 
-#[tactic(auto, unfolding(crate::specs::Text::text_of_lines))]
+#[tactic(auto, unfolding(cb_lines::specs::Text::text_of_lines))]
 fn put_histories(out: &mut Vec<u8>, histories: &[History]) -> Result<(), NoMemory>
     ensures { OnOk result (out.new.items ≡ out.old.items
         ++ text_of_lines (flat_map history_lines (map history_fields histories.now))) }
@@ -107,7 +87,7 @@ fn put_histories(out: &mut Vec<u8>, histories: &[History]) -> Result<(), NoMemor
     Ok(())
 }
 
-#[tactic(auto, unfolding(crate::specs::Text::text_of_lines))]
+#[tactic(auto, unfolding(cb_lines::specs::Text::text_of_lines))]
 fn put_entries(out: &mut Vec<u8>, entries: &[Entry]) -> Result<(), NoMemory>
     ensures { OnOk result (out.new.items ≡ out.old.items
         ++ text_of_lines (map entry_line (map entry_fields entries.now))) }
@@ -117,63 +97,4 @@ fn put_entries(out: &mut Vec<u8>, entries: &[Entry]) -> Result<(), NoMemory>
         out.extend_from_slice(b"\n")?;
     }
     Ok(())
-}
-
-/// The line of an entry, without its line feed.
-fn put_entry(out: &mut Vec<u8>, entry: &Entry) -> Result<(), NoMemory>
-    ensures { OnOk result (out.new.items ≡ out.old.items ++ entry_line (entry_fields entry.now)) }
-{
-    match entry {
-        Entry::Cast { frame } => put_frame(out, b"cast ", frame),
-        Entry::Arrive { frame, delivered } => {
-            put_frame(out, b"arrive ", frame)?;
-            put_delivered(out, delivered)
-        }
-        Entry::Tick { status } => put_frame(out, b"tick ", status),
-    }
-}
-
-/// A frame behind its word and a space.
-fn put_frame(out: &mut Vec<u8>, word: &[u8], frame: &Bytes) -> Result<(), NoMemory>
-    ensures { OnOk result (out.new.items ≡ out.old.items ++ word.now ++ encode_lower frame.now) }
-{
-    out.extend_from_slice(word)?;
-    let digits = hex::encode(*out.allocator(), frame.as_slice())?;
-    out.extend_from_slice(digits.as_bytes())
-}
-
-/// The words for what was delivered, each behind a space.
-fn put_delivered(out: &mut Vec<u8>, delivered: &[Name]) -> Result<(), NoMemory>
-    ensures { OnOk result (out.new.items ≡ out.old.items
-        ++ flat_map (λ word. space ∷ word) (delivered_words delivered.now)) }
-{
-    if delivered.is_empty() {
-        return out.extend_from_slice(b" -");
-    }
-    put_names(out, delivered)
-}
-
-fn put_names(out: &mut Vec<u8>, names: &[Name]) -> Result<(), NoMemory>
-    ensures { OnOk result (out.new.items ≡ out.old.items
-        ++ flat_map (λ word. space ∷ word) (map name_text names.now)) }
-{
-    for name in names {
-        out.extend_from_slice(b" ")?;
-        put_name(out, *name)?;
-    }
-    Ok(())
-}
-
-fn put_name(out: &mut Vec<u8>, name: Name) -> Result<(), NoMemory>
-    ensures { OnOk result (out.new.items ≡ out.old.items ++ name_text name) }
-{
-    put_number(out, name.sender)?;
-    out.extend_from_slice(b".")?;
-    put_number(out, name.number)
-}
-
-fn put_number(out: &mut Vec<u8>, number: u32) -> Result<(), NoMemory>
-    ensures { OnOk result (out.new.items ≡ out.old.items ++ decimal number) }
-{
-    out.extend_from_slice(Buffer::new().format(number).as_bytes())
 }

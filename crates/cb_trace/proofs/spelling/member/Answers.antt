@@ -1,6 +1,6 @@
 use Rattle.std.proofs.Common.{◌≡◌, arith, ap, List, ℕ}
 use Rattle.std.specs.Fmt.{decimal}
-use Rattle.cb_trace.proofs.Digits.{one_number}
+use Rattle.cb_lines.proofs.Digits.{one_number}
 use Rattle.cb_trace.proofs.spelling.member.Goals as goal
 use Rattle.cb_trace.proofs.spelling.member.Goals.{else-me-lt-MOST_MEMBERS-via-then-me-lt-MOST_MEMBERS+else-count-le-LONGEST_HISTORY, else-me-lt-MOST_MEMBERS-via-else-me-lt-MOST_MEMBERS}
 

@@ -5,9 +5,10 @@ use Rattle.std.proofs.lemmas.Result.{err_from_is_err_and}
 use Rattle.cb_trace.specs.Text.{member_words, member_line}
 use Rattle.cb_trace.specs.Bounds.{IsMember}
 use Rattle.cb_trace.specs.Finding.{IsMemberAndCount, count_words, count_line}
-use Rattle.cb_trace.proofs.Cut.{member_line_is_cut, pair}
-use Rattle.cb_trace.proofs.Digits.{one_number}
-use Rattle.cb_trace.proofs.Found.{not_in_part, word_at}
+use Rattle.cb_trace.proofs.Cut.{member_line_is_cut}
+use Rattle.cb_lines.proofs.Cut.{pair}
+use Rattle.cb_lines.proofs.Digits.{one_number}
+use Rattle.cb_lines.proofs.Found.{not_in_part, word_at}
 use Rattle.cb_trace.proofs.spelling.member_of.Goals as goal
 
 pub returns-then-len-ne-MEMBER_WORDS : goal.returns-then-len-ne-MEMBER_WORDS

@@ -1,6 +1,6 @@
 use Rattle.std.proofs.Common.{◌≡◌, ◌++◌, map, drop}
 use Rattle.cb_history.specs.Facts.{entry_fields}
-use Rattle.cb_trace.specs.Text.{entry_line, text_of_lines}
+use Rattle.cb_lines.specs.Text.{entry_line, text_of_lines}
 use Rattle.cb_trace.proofs.writing.put_entries.Given as goal
 
 abbrev pub invariant-loop-entry : goal.invariant-loop-entry

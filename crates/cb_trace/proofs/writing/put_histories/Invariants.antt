@@ -1,6 +1,7 @@
 use Rattle.std.proofs.Common.{◌≡◌, ◌++◌, map, drop}
 use Rattle.std.specs.List.{flat_map}
-use Rattle.cb_trace.specs.Text.{history_fields, history_lines, text_of_lines}
+use Rattle.cb_trace.specs.Text.{history_fields, history_lines}
+use Rattle.cb_lines.specs.Text.{text_of_lines}
 use Rattle.cb_trace.proofs.writing.put_histories.Given as goal
 
 abbrev pub invariant-loop-history : goal.invariant-loop-history

@@ -3,7 +3,7 @@ use Rattle.std.proofs.lemmas.List.{map-append}
 use Rattle.cb_history.specs.Facts.{EntryFields, entry_fields}
 use Rattle.cb_trace.specs.Text.{history_fields}
 use Rattle.cb_trace.specs.Reading.{progress_of, AtEntry, Stays}
-use Rattle.cb_trace.proofs.Found.{on_ok}
+use Rattle.cb_lines.proofs.Found.{on_ok}
 use Rattle.cb_trace.proofs.Going.{with_entry}
 use Rattle.cb_trace.proofs.reading.Reading.take_entry.Goals as goal
 

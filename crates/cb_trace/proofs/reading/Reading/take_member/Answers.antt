@@ -6,9 +6,9 @@ use Rattle.cb_history.specs.declared.history.Entry.{Entry}
 use Rattle.cb_history.specs.Facts.{entry_fields}
 use Rattle.cb_trace.specs.Text.{history_fields}
 use Rattle.cb_trace.specs.Reading.{progress_of, AtEntry, Stays}
-use Rattle.cb_trace.proofs.Found.{on_ok}
+use Rattle.cb_lines.proofs.Found.{on_ok}
 use Rattle.cb_trace.proofs.Going.{begun, ended, no_member_line}
-use Rattle.cb_trace.specs.declared.fault.LineFault.TheVariants.{NoLine}
+use Rattle.cb_lines.specs.declared.fault.LineFault.TheVariants.{NoLine}
 use Rattle.cb_trace.proofs.reading.Reading.take_member.Goals as goal
 use Rattle.cb_trace.proofs.reading.Reading.take_member.Goals.{else-is-via-then-is+else-not-is_empty, else-is-via-else-is}
 
