@@ -1,5 +1,5 @@
 -- The lists of a queue as the program keeps them, each with the places reserved for it.
-use Rattle.std.proofs.Common.{◌≡◌, ◌≢◌, ℕ, zero, suc, ◌+◌, ◌*◌, ◌<◌, ◌≤◌, List, [], ◌∷◌, ◌++◌, length, map, sym, ◌∙◌, ap, subst, arith, get_or, refl, All, sum_by, Global, deque_capacity, inl, inr, Some, None}
+use Rattle.std.proofs.Common.{◌≡◌, ◌≢◌, ℕ, zero, suc, ◌+◌, ◌*◌, ◌<◌, ◌≤◌, List, [], ◌∷◌, ◌++◌, length, map, sym, ◌∙◌, ap, subst, arith, get_or, refl, All, sum_by, Global, deque_capacity, inl, inr, Some, None, Bor}
 use Rattle.std.specs.declared.collections.VecDeque.{VecDeque}
 use Rattle.std.specs.Prelude.{Option, IsSome, IfSome, IfNone}
 use Rattle.std.specs.Option.{option_to_list}
@@ -243,6 +243,33 @@ module _ (window : ℕ) (deques : List Deque) (kept : AreLists window (lists_of 
       let was : deque_len d ≡ deque_len (get_or deques sender d) = ap (λ (x : Deque). deque_len x) here in
       let long : length d.items ≡ length (first ∷ after.items) = ap length items in
       omega (arith, is, sums, was, long, deque_len-items d, deque_len-items after)
+
+-- a look at the front of a sender's list
+module _ (window : ℕ) (deques : List Deque) (are : AreLists window (lists_of deques)) (sender : ℕ) (d : Deque)
+    (list : list_of (lists_of deques) sender ≡ d.items) where
+  pub front_first : (looked : ℕ) (settled : Option (List ℕ)) (front : Option (Bor Message)) → (IsSome front → 0 < deque_len d)
+      → IfSome front (λ m. m.now ≡ get_or d.items 0 m.now)
+      → IfSome front (λ m. IsFirst (with_looks (queue_of window (lists_of deques)) looked settled) sender m.now)
+  front_first looked settled None some at = tt
+  front_first looked settled (Some m) some at =
+      first_seen looked settled (of_list d.items list (omega (arith, some refl, deque_len-items d)) at)
+    where
+      of_list : (items : List Message) → list_of (lists_of deques) sender ≡ items → 0 < length items → m.now ≡ get_or items 0 m.now
+          → IsFirst (queue_of window (lists_of deques)) sender m.now
+      of_list [] e filled here = absurd (omega (arith, filled))
+      of_list (first ∷ rest) e filled here =
+          subst (λ (x : Message). IsFirst (queue_of window (lists_of deques)) sender x) (sym here) (first_held window (lists_of deques) are sender first rest e)
+
+  pub front_none : (front : Option (Bor Message)) → (0 < deque_len d → IsSome front)
+      → IfNone front ((other : Message) → IsHeld (queue_of window (lists_of deques)) other → other.name.sender ≢ sender)
+  front_none (Some m) some = tt
+  front_none None some =
+      let empty : length d.items ≡ 0 =
+      elim (cases_lt 0 (length d.items)) as (λ _. length d.items ≡ 0) [
+        | inl filled ↦ let wrong = some (omega (arith, filled, deque_len-items d)) in cc
+        | inr none ↦ omega (arith, none)
+      ] in
+      λ other. none_held window (lists_of deques) are sender other (list ∙ nil_of_length d.items empty)
 
 -- of a sender that the group lacks none is held
 pub release_outside : (window : ℕ) (deques : List Deque) → AreLists window (lists_of deques) → (sender : ℕ) → length deques ≤ sender

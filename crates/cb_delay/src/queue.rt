@@ -183,6 +183,14 @@ impl DelayQueue {
         Some(message)
     }
 
+    /// The message of this sender with the smallest number, where one is held. It stays.
+    pub fn first_of(&self, sender: u32) -> Option<&Message>
+        ensures first { IfSome result (λ message. IsFirst self.now sender message.now) }
+        ensures none { IfNone result (HoldsNoneOf self.now sender) }
+    {
+        self.lists.get(sender as usize)?.front()
+    }
+
     /// How many messages are held.
     pub fn len(&self) -> usize
         ensures len { result ≡ map.len self.now.held }

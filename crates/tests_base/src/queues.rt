@@ -91,6 +91,12 @@ fn releases(rt: &impl Abort, queue: &mut DelayQueue, sender: u32, name: Option<N
     same(rt, released, name);
 }
 
+/// The message of this name is the first held of its sender, or none is.
+fn is_first(rt: &impl Abort, queue: &DelayQueue, sender: u32, name: Option<Name>) {
+    let first = queue.first_of(sender).map(|message| message.name);
+    same(rt, first, name);
+}
+
 #[test]
 fn an_answer_waits_for_its_question(rt: HostRuntime) {
     let alloc = rt.alloc();
@@ -134,6 +140,9 @@ fn a_later_message_may_be_the_ready_one(rt: HostRuntime) {
     let question = message_of(&rt, alloc, QUESTION, 0);
     let mut queue = queue_with(alloc, question).expect(&rt, "memory");
     hold_second(&mut queue, QUESTION, message_of(&rt, alloc, second, 0));
+    is_first(&rt, &queue, 0, Some(QUESTION));
+    is_first(&rt, &queue, 2, None);
+    is_first(&rt, &queue, 64, None);
     is_ready_at(&rt, alloc, &mut queue, [1, 0, 0], Some(0));
     is_ready_at(&rt, alloc, &mut queue, [5, 0, 0], None);
     releases(&rt, &mut queue, 0, Some(QUESTION));
