@@ -14,7 +14,7 @@ use Rattle.cb_frames.specs.declared.frame.Range.{Range}
 use Rattle.cb_frames.specs.Fields.{CastFields, unit_fields, first_number, last_number}
 use Rattle.cb_times.specs.Group.{IsWindow}
 use Rattle.cb_frames.specs.Carrying.{IsNumbered}
-use Rattle.cb_gaps.specs.Buffer.{IsNew, IsKept, IsReceived, IsLacking, AreLacking, Admits, IsAfter, IsNext, IsMissing, IsReorderBuffer}
+use Rattle.cb_gaps.specs.Buffer.{IsNew, IsKept, IsReceived, IsLacking, AreLacking, Admits, IsAfter, IsNext, IsFirstKept, IsMissing, IsReorderBuffer}
 use Rattle.cb_gaps.specs.Ranges.{HasOne, AreRangesOf}
 use Rattle.cb_gaps.specs.Lists.{first_of, last_of, entries_of, Rise, HasNumber, HasReceived, IsReceivedAnswer, IsRowAnswer, IsFreePlace, IsGap, AreKept, buffer_of}
 use Rattle.cb_gaps.specs.declared.buffer.Admission.{Admission}
@@ -167,6 +167,24 @@ module _ (window taken : ℕ) (units : List Carrying) (first : Carrying) (are : 
       subst IsNumbered (sym at)
       (is_numbered (get_or units 0 first) (omega (arith, rise_above taken units are.rise 0 first some)) (rise_filled taken units are.rise 0 first some)
       (are.in_range 0 first some))
+
+-- the front has the smallest number
+from_front : (before number : ℕ) (c : Carrying) (units : List Carrying) → Rise before (c ∷ units) → HasNumber (c ∷ units) number → first_of c ≤ number
+from_front before number c units rise (inl covers) = covers.0
+from_front before number c units rise (inr later) =
+    elim (cases_lt (last_of c) number) as (λ _. first_of c ≤ number) [
+      | inl after ↦ omega (arith, after, rise.1)
+      | inr upto ↦ absurd (none_before number (last_of c) units rise.2 upto later)
+    ]
+
+pub front_kept : (window taken : ℕ) (units : List Carrying) (front : Carrying) → AreKept window taken units → 0 < length units
+    → front ≡ get_or units 0 front → IsFirstKept (buffer_of window taken units) (first_of front)
+front_kept window taken [] front are some at = absurd (omega (arith, some))
+front_kept window taken (c ∷ units) front are some at =
+    rw (ap first_of at) (record {
+      kept = has_kept window taken (c ∷ units) are (first_of c) (inl (let filled = are.rise.1 in (omega arith, filled)));
+      least = λ other is. from_front taken other c units are.rise (kept_has window taken (c ∷ units) are other is);
+    })
 
 -- what comes out at the front
 module _ (window taken : ℕ) (units after : List Carrying) (first : Carrying) (are : AreKept window taken units)

@@ -33,6 +33,11 @@ pub record IsKept (buffer : Buffer) (number : ℕ) : Type 0 where
   pub kept : map.get buffer.kept (first_number cast) ≡ Some cast
   pub covers : Covers cast number
 
+-- the smallest number that is kept
+pub record IsFirstKept (buffer : Buffer) (number : ℕ) : Type 0 where
+  pub kept : IsKept buffer number
+  pub least : (other : ℕ) → IsKept buffer other → number ≤ other
+
 -- the message of this number was taken, or is kept
 abbrev pub IsReceived : Buffer → ℕ → Type 0
 IsReceived buffer number = (number ≤ buffer.taken) ⊎ IsKept buffer number

@@ -5,7 +5,7 @@ ghost use Rattle.std.specs.VecDeque.{deque_len, deque_capacity};
 ghost use Rattle.cb_frames.specs.Fields.{unit_fields};
 ghost use Rattle.cb_times.specs.Group.{IsWindow};
 ghost use Rattle.cb_frames.specs.Carrying.{IsNumbered};
-ghost use Rattle.cb_gaps.specs.Buffer.{IsNew, Admits, IsAnswer, IsAfter, IsNext, IsInOrder, Takes, IsMissing, IsReorderBuffer, WouldComeOut};
+ghost use Rattle.cb_gaps.specs.Buffer.{IsNew, Admits, IsAnswer, IsAfter, IsNext, IsInOrder, IsFirstKept, Takes, IsMissing, IsReorderBuffer, WouldComeOut};
 ghost use Rattle.cb_gaps.specs.Ranges.{AreRangesOf, HasOne, IsRow, end_with, gap_between};
 ghost use Rattle.cb_gaps.specs.Lists.{Rise, Below, HasNumber, IsReceivedAnswer, IsRowAnswer, IsGap, IsFreePlace, IsPlaceFor};
 
@@ -112,6 +112,14 @@ impl Reorder {
         ensures { result ≡ fin.len self.now.kept }
     {
         self.kept.len()
+    }
+
+    /// The smallest number that is kept, where one is: the first message behind the gap.
+    pub fn first_kept(&self) -> Option<u32>
+        ensures first { IfSome result (IsFirstKept self.now) }
+        ensures none { IfNone result (self.now.kept ≡ fin.empty) }
+    {
+        Some(self.kept.front()?.first())
     }
 
     /// What `keep` would answer to a unit with the numbers `first` to `last` where so many of the sender's messages are delivered.

@@ -26,6 +26,8 @@ enum Call {
     ReadyWithBurst(u32, u32),
     /// How many units are kept.
     Len,
+    /// The smallest number that is kept.
+    FirstKept,
     /// The next unit.
     Take,
     /// To take a cast of this number without keeping it, where it is in order.
@@ -173,6 +175,7 @@ fn answer(reorder: &Reorder, call: Call, text: &mut String) -> Result<(), NoMemo
         Call::ReadyWith(number) => write!(text, "{}", reorder.ready_with(number, number)),
         Call::ReadyWithBurst(first, last) => write!(text, "{}", reorder.ready_with(first, last)),
         Call::Len => write!(text, "{}", reorder.len()),
+        Call::FirstKept => write!(text, "{:?}", reorder.first_kept()),
         Call::Missing(delivered, known) => {
             tell_ranges(&reorder.missing(delivered, known)?, text)
         }
@@ -302,6 +305,7 @@ fn what_would_come_out_is_reported_before_it_is_kept(rt: HostRuntime) {
         (Call::Keep(0, 2), "Kept"),
         (Call::Keep(0, 3), "Kept"),
         (Call::Keep(0, 5), "Kept"),
+        (Call::FirstKept, "Some(2)"),
         (Call::ReadyWith(2), "0"),
         (Call::ReadyWith(4), "0"),
         (Call::ReadyWith(1), "3"),
@@ -461,6 +465,7 @@ fn none_follows_the_greatest_number(rt: HostRuntime) {
 fn a_burst_comes_out_whole_and_counts_its_messages(rt: HostRuntime) {
     const STEPS: &[(Call, &str)] = &[
         (Call::ReadyWithBurst(2, 4), "0"),
+        (Call::FirstKept, "None"),
         (Call::KeepBurst(0, 2, 3), "Kept"),
         (Call::Len, "1"),
         (Call::Take, "none"),
