@@ -1,14 +1,12 @@
 -- What is kept to be handed on: with one fact more, with one frame more, and with fewer.
-use Rattle.std.proofs.Common.{◌≡◌, ◌≢◌, ℕ, zero, suc, ◌<◌, ◌≤◌, List, [], ◌∷◌, ◌++◌, length, map, set, Some, sym, ap, subst, ◌∙◌, arith, inl, inr, All, slice_get}
+use Rattle.std.proofs.Common.{◌≡◌, ◌≢◌, ℕ, zero, suc, List, [], ◌∷◌, ◌++◌, length, map, set, Some, sym, ap, subst, ◌∙◌, arith, inl, inr, All, slice_get}
 use Rattle.std.specs.List.{AllByRecursion}
-use Rattle.std.proofs.lemmas.Bool.{cases_eq}
 use Rattle.std.proofs.lemmas.List.{length-set}
 use Rattle.std.proofs.lemmas.List.Elements.{recursion_from_All}
-use Rattle.std.proofs.lemmas.Option.{slice_get_within}
 use Rattle.cb_frames.specs.declared.frame.Range.{Range}
 use Rattle.cb_frames.specs.Fields.{CastFields, HelpFields, HelpFrame}
 use Rattle.cb_stability.specs.Known.{Known}
-use Rattle.cb_stability.specs.Relays.{Relayed, relayed, placed, with_place, behind_stable, handed_on}
+use Rattle.cb_stability.specs.Relays.{Relayed, placed, with_place, behind_stable, handed_on}
 use Rattle.cb_stability.specs.Sent.{first_in}
 use Rattle.cb_history.specs.Group.{Identity}
 use Rattle.cb_history.specs.Facts.{Fact, CastReceived}

@@ -1,4 +1,4 @@
-use Rattle.std.proofs.Common.{◌≡◌, ℕ, true, Some, refl, sym, ap, subst, rules, tests}
+use Rattle.std.proofs.Common.{◌≡◌, ℕ, true, Some, refl, sym, subst, rules, tests}
 use Rattle.cb_frames.specs.Fields.{unit_fields}
 use Rattle.cb_member.specs.declared.recorder.arriving.Named.{Named}
 use Rattle.cb_member.specs.declared.state.State.{State}
