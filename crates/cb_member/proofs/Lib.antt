@@ -3,6 +3,7 @@ pub mod Acknowledging
 pub mod Alike
 pub mod Answering
 pub mod Arriving
+pub mod Awaiting
 pub mod Bursting
 pub mod Casting
 pub mod CoreArrivals
@@ -10,6 +11,7 @@ pub mod CoreCalls
 pub mod CoreRows
 pub mod CoreRuns
 pub mod Cores
+pub mod Counted
 pub mod Courses
 pub mod Draining
 pub mod Entering
@@ -24,6 +26,7 @@ pub mod OwnCasts
 pub mod Passing
 pub mod Putting
 pub mod Reading
+pub mod ReadingRows
 pub mod Ready
 pub mod Receiving
 pub mod Recording

@@ -11,6 +11,7 @@ pub mod Foreseen
 pub mod Hearing
 pub mod Knowledge
 pub mod Passing
+pub mod Readings
 pub mod Received
 pub mod Reception
 pub mod Recorder

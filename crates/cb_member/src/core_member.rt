@@ -14,6 +14,7 @@ ghost use Rattle.cb_history.specs.Known.{ranges_of};
 ghost use Rattle.cb_history.specs.State.{time_in, stable_in, stable_of_in, missing_in, answer_to_cast, answer_to_help, entry_by, facts_in, next_in, state_after, HasCast, HasCastBurst, HasTicked, RefusesHelp, RefusesTick};
 ghost use Rattle.cb_member.specs.Casting.{RefusesBurstExactly, RefusesExactly};
 ghost use Rattle.cb_member.specs.CoreCalls.{HasEntryOnEach, JoinsAs, MayCast, ReceivesOnEach, RefusesOnEach, RefusesWithin, joined};
+ghost use Rattle.cb_member.specs.Readings.{acknowledged_by_in, delivered_of_in, keeps_window_full_in, waiting_in, waits_for_in};
 ghost use Rattle.cb_member.specs.Received.{count_said};
 ghost use Rattle.cb_member.specs.CoreMember.{GoesOn, OnEach, StandsFor};
 ghost use Rattle.cb_member.specs.CoreRuns.{Burst, Cast, IsCall, Take, Tick};
@@ -23,6 +24,7 @@ mod casting;
 mod ticking;
 
 use crate::core_member::arriving::Noting;
+use crate::readings::Delayed;
 use crate::recorder::Received;
 use crate::state::State;
 use bytes::Bytes;
@@ -112,6 +114,44 @@ impl CoreMember {
         ensures { OnEach self.now (λ m. result ≡ stable_of_in m i) }
     {
         self.state.stable_of(i)
+    }
+
+    /// How many messages of member k are delivered here, own casts included; `None` where the group has no member k.
+    pub fn delivered_of(&self, k: u32) -> Option<u32>
+        ensures { OnEach self.now (λ m. result ≡ delivered_of_in m k) }
+    {
+        self.state.delivered_of(k)
+    }
+
+    /// How many own casts member k is known to have delivered, this one all; `None` where the group has no member k.
+    pub fn acknowledged_by(&self, k: u32) -> Option<u32>
+        ensures { OnEach self.now (λ m. result ≡ acknowledged_by_in m k) }
+    {
+        self.state.acknowledged_by(k)
+    }
+
+    /// Whether another member k keeps this one's window full: of as many of its last casts as the window is wide it is not known to have
+    /// delivered any.
+    pub fn keeps_window_full(&self, k: u32) -> bool
+        ensures { OnEach self.now (λ m. result ≡ keeps_window_full_in m k) }
+    {
+        self.state.keeps_window_full(k)
+    }
+
+    /// How many messages wait: they were received and are not delivered, since something before them is missing. Those behind a gap of
+    /// their own sender count too.
+    pub fn waiting(&self) -> u32
+        ensures { OnEach self.now (λ m. result ≡ waiting_in m) }
+    {
+        self.state.waiting()
+    }
+
+    /// The first message of member i that waits, and what it waits for: of the members of whose messages in its past some are not
+    /// delivered here the smallest, and their numbers. `None` where no message of i waits.
+    pub fn waits_for(&self, i: u32) -> Option<Delayed>
+        ensures { OnEach self.now (λ m. result ≡ waits_for_in m i) }
+    {
+        self.state.waits_for(i)
     }
 
     /// The casts of member i that are missing, as rising ranges that neither touch nor overlap.

@@ -10,8 +10,10 @@ ghost use Rattle.cb_history.specs.Load.{many_of};
 ghost use Rattle.cb_history.specs.Known.{ranges_of};
 ghost use Rattle.cb_history.specs.State.{IsMemberState, state_of, time_in, events_in, stable_in, stable_of_in, missing_in, answer_to_help, entry_by, HasCast, HasCastBurst, HasTaken, RefusesArrival, HasTicked, RefusesHelp, RefusesTick};
 ghost use Rattle.cb_member.specs.Casting.{RefusesExactly, RefusesBurstExactly};
+ghost use Rattle.cb_member.specs.Readings.{acknowledged_by_in, delivered_of_in, keeps_window_full_in, waiting_in, waits_for_in};
 ghost use Rattle.cb_member.specs.Received.{HasReceivedFrame, HasTakenToSend};
 
+use crate::readings::Delayed;
 use crate::recorder::{Received, Recorder, Taken, Wanted};
 use bytes::Bytes;
 use cb_frames::Range;
@@ -118,6 +120,44 @@ impl Member {
         ensures { result ≡ stable_of_in self.now i }
     {
         self.recorder.state.stable_of(i)
+    }
+
+    /// How many messages of member k are delivered here, own casts included; `None` where the group has no member k.
+    pub fn delivered_of(&self, k: u32) -> Option<u32>
+        ensures { result ≡ delivered_of_in self.now k }
+    {
+        self.recorder.state.delivered_of(k)
+    }
+
+    /// How many own casts member k is known to have delivered, this one all; `None` where the group has no member k.
+    pub fn acknowledged_by(&self, k: u32) -> Option<u32>
+        ensures { result ≡ acknowledged_by_in self.now k }
+    {
+        self.recorder.state.acknowledged_by(k)
+    }
+
+    /// Whether another member k keeps this one's window full: of as many of its last casts as the window is wide it is not known to have
+    /// delivered any.
+    pub fn keeps_window_full(&self, k: u32) -> bool
+        ensures { result ≡ keeps_window_full_in self.now k }
+    {
+        self.recorder.state.keeps_window_full(k)
+    }
+
+    /// How many messages wait: they were received and are not delivered, since something before them is missing. Those behind a gap of
+    /// their own sender count too.
+    pub fn waiting(&self) -> u32
+        ensures { result ≡ waiting_in self.now }
+    {
+        self.recorder.state.waiting()
+    }
+
+    /// The first message of member i that waits, and what it waits for: of the members of whose messages in its past some are not
+    /// delivered here the smallest, and their numbers. `None` where no message of i waits.
+    pub fn waits_for(&self, i: u32) -> Option<Delayed>
+        ensures { result ≡ waits_for_in self.now i }
+    {
+        self.recorder.state.waits_for(i)
     }
 
     /// The casts of member i that are missing, as rising ranges that neither touch nor overlap.

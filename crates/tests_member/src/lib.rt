@@ -17,3 +17,5 @@ mod examples;
 mod members;
 #[cfg(test)]
 mod quick;
+#[cfg(test)]
+mod readings;

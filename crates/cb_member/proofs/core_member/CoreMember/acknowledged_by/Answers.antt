@@ -1,0 +1,11 @@
+use Rattle.cb_history.specs.Facts.{facts_of}
+use Rattle.cb_member.proofs.Cores.{facts_stand, is_state, keeps_of}
+use Rattle.cb_member.proofs.core_member.CoreMember.acknowledged_by.Goals as goal
+
+pub acknowledged_by-requires : goal.acknowledged_by-requires
+acknowledged_by-requires c = is_state c.self.inside.state c.self.invariant
+
+pub returns : goal.returns
+returns c =
+    let state = c.self.inside.state in
+    rw (← c.self.view_is) (λ entries s. c.acknowledged_by.ensures (facts_of entries) (facts_stand state entries s) (keeps_of state entries s))

@@ -1,0 +1,11 @@
+use Rattle.cb_history.specs.Facts.{facts_of}
+use Rattle.cb_member.proofs.Cores.{facts_stand, is_state, keeps_of}
+use Rattle.cb_member.proofs.core_member.CoreMember.delivered_of.Goals as goal
+
+pub delivered_of-requires : goal.delivered_of-requires
+delivered_of-requires c = is_state c.self.inside.state c.self.invariant
+
+pub returns : goal.returns
+returns c =
+    let state = c.self.inside.state in
+    rw (← c.self.view_is) (λ entries s. c.delivered_of.ensures (facts_of entries) (facts_stand state entries s) (keeps_of state entries s))
