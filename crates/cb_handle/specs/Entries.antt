@@ -1,9 +1,12 @@
--- What is shown of an entry, of names and of ranges.
-use Rattle.std.specs.Prelude.{◌≡◌, ℕ, List, [], length, map}
+-- What is shown of an entry, of names, of ranges and of what waits.
+use Rattle.std.specs.Prelude.{◌≡◌, ℕ, true, false, List, [], length, map, Option, Some, None}
 use Rattle.cb_times.specs.declared.name.Name as times
 use Rattle.cb_frames.specs.declared.frame.Range as frames
 use Rattle.cb_history.specs.Facts.{EntryFields, CastEntry, ArriveEntry, TickEntry}
 use Rattle.cb_handle.specs.declared.rows.TheConstants.{CAST, ARRIVE, TICK}
+use Rattle.cb_member.specs.declared.readings.Awaited.{Awaited}
+use Rattle.cb_member.specs.declared.readings.Delayed as member
+use Rattle.cb_handle.specs.declared.rows.Delayed.{Delayed}
 use Rattle.cb_handle.specs.declared.rows.EntryHead.{EntryHead}
 use Rattle.cb_handle.specs.declared.rows.Name.{Name}
 use Rattle.cb_handle.specs.declared.rows.Range.{Range}
@@ -32,6 +35,14 @@ name_row name = record { sender = name.sender; number = name.number }
 
 abbrev pub range_row : frames.Range → Range
 range_row range = record { first = range.first; last = range.last }
+
+-- a message that waits, by its number, and the messages that it waits for
+abbrev pub awaited_row : ℕ → Option Awaited → Delayed
+awaited_row number None = record { is_ready = true; number = number; sender = 0; first = 0; last = 0 }
+awaited_row number (Some a) = record { is_ready = false; number = number; sender = a.sender; first = a.numbers.first; last = a.numbers.last }
+
+abbrev pub delayed_row : member.Delayed → Delayed
+delayed_row d = awaited_row d.name.number d.awaits
 
 -- one entry: its head, and its frame and the names of what it delivered over what was there
 pub record ShowsEntry (entry : EntryFields) (head : EntryHead) (frame new_frame : List ℕ) (delivered new_delivered : List Name) : Type 0 where

@@ -1,16 +1,17 @@
 //! A member with the frames of its last call.
 
-ghost use Rattle.std.specs.Prelude.{◌≡◌, ◌⊎◌, ◌↔◌, ◌≤◌, [], length, drop, slice_get, map, IfOk, IfErr, OnOk, OnErr, MatchOption, Ok, Err, ◌==◌, ◌+◌, slice_range, if◌then◌else◌};
+ghost use Rattle.std.specs.Prelude.{◌≡◌, ◌⊎◌, ◌↔◌, ◌≤◌, [], length, drop, slice_get, map, IfOk, IfErr, OnOk, OnErr, MatchOption, Ok, Err, ◌==◌, ◌+◌, slice_range, option_map, if◌then◌else◌};
 ghost use Rattle.cb_frames.specs.Fields.{One};
 ghost use Rattle.cb_history.specs.State.{time_in, stable_in, stable_of_in, missing_in, RefusesArrival, RefusesHelp, RefusesTick};
 ghost use Rattle.cb_history.specs.Known.{ranges_of};
 ghost use Rattle.cb_history.specs.Load.{many_of};
 ghost use Rattle.cb_member.specs.Casting.{RefusesBurstExactly, RefusesExactly};
+ghost use Rattle.cb_member.specs.Readings.{acknowledged_by_in, keeps_window_full_in, waiting_in, waits_for_in};
 ghost use Rattle.cb_member.specs.Received.{received_says, sent_by};
 ghost use Rattle.cb_handle.specs.Copies.{copied};
 ghost use Rattle.cb_handle.specs.Frames.{frames_of, ShowsFrame, ShowsFrames};
 ghost use Rattle.cb_handle.specs.Events.{ShowsEvent, ShowsEvents};
-ghost use Rattle.cb_handle.specs.Entries.{ShowsEntry, range_row};
+ghost use Rattle.cb_handle.specs.Entries.{ShowsEntry, delayed_row, range_row};
 ghost use Rattle.cb_handle.specs.Opening.{RefusesToOpen, IsNewOf};
 ghost use Rattle.cb_handle.specs.Parts.{HasReceivedParts, Leaves, RefusesParts};
 ghost use Rattle.cb_handle.specs.Payloads.{AreThere, RefusesPayloads, burst_in};
@@ -20,9 +21,9 @@ use crate::copies::{copy_front, from};
 use crate::frames::{Frames, show_frame, show_frames};
 use crate::kept::Kept;
 use crate::payloads::{are_enough, cut};
-use crate::reading::{entry_at, event_at, events_from, show_ranges};
+use crate::reading::{delayed_row, entry_at, event_at, events_from, show_ranges};
 use crate::received::ReceivedBlock;
-use crate::rows::{Counts, EntryHead, EventHead, FrameHead, Name, Range, Received};
+use crate::rows::{Counts, Delayed, EntryHead, EventHead, FrameHead, Name, Range, Received};
 use bytes::Bytes;
 use cb_frames::MOST_MESSAGES;
 use cb_member::{
@@ -415,6 +416,37 @@ impl Held {
         ensures { OnEach self.now (λ m. result ≡ stable_of_in m member) }
     {
         self.kept.stable_of(member)
+    }
+
+    /// How many own casts a member is known to have delivered, this one all; `None` where the group has no such member.
+    pub fn acknowledged_by(&self, member: u32) -> Option<u32>
+        ensures { OnEach self.now (λ m. result ≡ acknowledged_by_in m member) }
+    {
+        self.kept.acknowledged_by(member)
+    }
+
+    /// Whether another member keeps the window full: of as many of the last own casts as the window is wide it is not known to have
+    /// delivered any.
+    pub fn keeps_window_full(&self, member: u32) -> bool
+        ensures { OnEach self.now (λ m. result ≡ keeps_window_full_in m member) }
+    {
+        self.kept.keeps_window_full(member)
+    }
+
+    /// How many messages wait: they were received and are not delivered.
+    pub fn waiting(&self) -> u32
+        ensures { OnEach self.now (λ m. result ≡ waiting_in m) }
+    {
+        self.kept.waiting()
+    }
+
+    /// The first message of a member that waits, and what it waits for; `None` where none of it waits.
+    pub fn waits_for(&self, member: u32) -> Option<Delayed>
+        ensures { OnEach self.now (λ m. result
+            ≡ option_map delayed_row (waits_for_in m member)) }
+    {
+        let delayed = self.kept.waits_for(member)?;
+        Some(delayed_row(delayed))
     }
 
     /// Shows the casts of a member that are missing, and tells how many ranges they are.

@@ -10,6 +10,7 @@ ghost use Rattle.cb_history.specs.Facts.{entry_fields};
 ghost use Rattle.cb_history.specs.Legal.{and_entry, longest_history};
 ghost use Rattle.cb_history.specs.State.{missing_in, stable_in, stable_of_in, time_in, answer_to_help, RefusesArrival, RefusesHelp, RefusesTick};
 ghost use Rattle.cb_member.specs.Casting.{RefusesBurstExactly, RefusesExactly};
+ghost use Rattle.cb_member.specs.Readings.{acknowledged_by_in, keeps_window_full_in, waiting_in, waits_for_in};
 ghost use Rattle.cb_member.specs.CoreCalls.{MayCast};
 ghost use Rattle.cb_handle.specs.Kept.{OnEach, seat_of, events_of, entries_of};
 ghost use Rattle.cb_handle.specs.Opening.{IsNew};
@@ -19,7 +20,7 @@ ghost use Rattle.cb_handle.specs.Parts.{HasReceivedBehind};
 use bytes::Bytes;
 use cb_history::LONGEST_HISTORY;
 use cb_member::{
-    ArriveRefusal, BurstRefusal, CastRefusal, CoreMember, Entry, Event, Group, HelpFault,
+    ArriveRefusal, BurstRefusal, CastRefusal, CoreMember, Delayed, Entry, Event, Group, HelpFault,
     MissingFault, NewFault, Outgoing, Range, Received, TickRefusal, VectorTime,
 };
 use cb_times::make_room;
@@ -203,6 +204,35 @@ impl Kept {
         ensures { OnEach self.now (λ m. result ≡ stable_of_in m member) }
     {
         self.core.stable_of(member)
+    }
+
+    /// How many own casts a member is known to have delivered, this one all; `None` where the group has no such member.
+    pub fn acknowledged_by(&self, member: u32) -> Option<u32>
+        ensures { OnEach self.now (λ m. result ≡ acknowledged_by_in m member) }
+    {
+        self.core.acknowledged_by(member)
+    }
+
+    /// Whether another member keeps the window full: of as many of the last own casts as the window is wide it is not known to have
+    /// delivered any.
+    pub fn keeps_window_full(&self, member: u32) -> bool
+        ensures { OnEach self.now (λ m. result ≡ keeps_window_full_in m member) }
+    {
+        self.core.keeps_window_full(member)
+    }
+
+    /// How many messages wait: they were received and are not delivered.
+    pub fn waiting(&self) -> u32
+        ensures { OnEach self.now (λ m. result ≡ waiting_in m) }
+    {
+        self.core.waiting()
+    }
+
+    /// The first message of a member that waits, and what it waits for; `None` where none of it waits.
+    pub fn waits_for(&self, member: u32) -> Option<Delayed>
+        ensures { OnEach self.now (λ m. result ≡ waits_for_in m member) }
+    {
+        self.core.waits_for(member)
     }
 
     /// The casts of a member that are missing.

@@ -21,5 +21,5 @@ pub use handle::{Handle, closed, put, take};
 pub use held::{Held, LoadedRefusal, NoneThere, OpenFault, PayloadsRefusal};
 pub use kept::Kept;
 pub use rows::{
-    ARRIVE, CAST, Counts, EntryHead, EventHead, FrameHead, Name, Range, Received, TICK,
+    ARRIVE, CAST, Counts, Delayed, EntryHead, EventHead, FrameHead, Name, Range, Received, TICK,
 };

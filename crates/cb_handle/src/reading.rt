@@ -1,14 +1,14 @@
-//! Events, entries and ranges in a caller's memory.
+//! Events, entries, ranges and what waits in a caller's memory.
 
 ghost use Rattle.std.specs.Prelude.{◌≡◌, drop, map, slice_get, MatchOption, OnErr, Ok, Err};
 ghost use Rattle.cb_history.specs.Facts.{CastEntry, entry_fields};
 ghost use Rattle.cb_handle.specs.Copies.{copied};
 ghost use Rattle.cb_handle.specs.Events.{event_head, ShowsEvent, ShowsEvents};
-ghost use Rattle.cb_handle.specs.Entries.{kind_in, frame_in, names_in, ShowsEntry, name_row, range_row};
+ghost use Rattle.cb_handle.specs.Entries.{kind_in, frame_in, names_in, ShowsEntry, delayed_row, name_row, range_row};
 
 use crate::copies::{copy_at, copy_front, from};
 use crate::held::NoneThere;
-use crate::rows::{ARRIVE, CAST, EntryHead, EventHead, Name, Range, TICK};
+use crate::rows::{ARRIVE, CAST, Delayed, EntryHead, EventHead, Name, Range, TICK};
 use bytes::Bytes;
 use cb_member::{Entry, Event, Outgoing};
 
@@ -187,5 +187,28 @@ pub fn show_ranges(ranges: &[cb_member::Range], to: &mut [Range])
             first: range.first,
             last: range.last,
         };
+    }
+}
+
+/// A message that waits, and what it waits for.
+pub fn delayed_row(delayed: cb_member::Delayed) -> Delayed
+    ensures { result ≡ delayed_row delayed }
+{
+    let number = delayed.name.number;
+    match delayed.awaits {
+        Some(awaited) => Delayed {
+            is_ready: false,
+            number,
+            sender: awaited.sender,
+            first: awaited.numbers.first,
+            last: awaited.numbers.last,
+        },
+        None => Delayed {
+            is_ready: true,
+            number,
+            sender: 0,
+            first: 0,
+            last: 0,
+        },
     }
 }

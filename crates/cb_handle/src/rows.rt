@@ -75,3 +75,15 @@ pub struct Range {
     pub first: u32,
     pub last: u32,
 }
+
+/// Of the first message of a member that waits: its number, and the messages that it waits for, from `first` to `last` of `sender`.
+#[repr(C)]
+#[derive(Clone, Copy, Debug, Default, PartialEq, Eq)]
+pub struct Delayed {
+    /// It waits for none, and is delivered with the next cast that is received; then `sender`, `first` and `last` are 0.
+    pub is_ready: bool,
+    pub number: u32,
+    pub sender: u32,
+    pub first: u32,
+    pub last: u32,
+}
