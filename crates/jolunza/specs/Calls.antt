@@ -9,13 +9,15 @@ use Rattle.cb_history.specs.Group.{Parameters}
 use Rattle.cb_history.specs.Known.{ranges_of}
 use Rattle.cb_history.specs.State.{missing_in, stable_of_in, RefusesTick, RefusesHelp}
 use Rattle.cb_member.specs.Casting.{RefusesExactly}
+use Rattle.cb_member.specs.Readings.{acknowledged_by_in, waits_for_in}
 use Rattle.cb_handle.specs.declared.held.Held.{Held}
 use Rattle.cb_handle.specs.declared.held.LoadedRefusal.{LoadedRefusal}
 use Rattle.cb_handle.specs.declared.held.OpenFault.{OpenFault}
+use Rattle.cb_handle.specs.declared.rows.Delayed.{Delayed}
 use Rattle.cb_handle.specs.declared.rows.Range.{Range}
 use Rattle.cb_handle.specs.declared.rows.Received.{Received}
 use Rattle.cb_handle.specs.Copies.{copied}
-use Rattle.cb_handle.specs.Entries.{range_row}
+use Rattle.cb_handle.specs.Entries.{delayed_row, range_row}
 use Rattle.cb_handle.specs.Opening.{RefusesToOpen, IsNewOf}
 use Rattle.cb_handle.specs.Calling.{OnEach, seat_held, HasCastToSend, HasReceivedToSend, HasTickedToSend, HasHelpToSend, RefusesBytes, HasReceivedLoaded, RefusesLoaded, with_loaded}
 use Rattle.cb_handle.specs.Parts.{HasReceivedParts, RefusesParts}
@@ -103,6 +105,13 @@ TellsCount (Some stable) count code = (code ≡ DONE) × (count ≡ stable)
 
 abbrev pub ShowsStable : ℕ → ℕ → Held → ℕ → Type 0
 ShowsStable member count held code = OnEach held (λ m. TellsCount (stable_of_in m member) count code)
+
+abbrev pub ShowsAcknowledged : ℕ → ℕ → Held → ℕ → Type 0
+ShowsAcknowledged member count held code = OnEach held (λ m. TellsCount (acknowledged_by_in m member) count code)
+
+-- the first message of a member that waits is told, with what it waits for, or none of it waits
+abbrev pub ShowsDelayed : ℕ → Delayed → Held → ℕ → Type 0
+ShowsDelayed member delayed held code = OnEach held (λ m. ShowsAt (λ d. delayed ≡ delayed_row d) (waits_for_in m member) code)
 
 -- the handle holds the new member, or nothing, and the code tells why
 abbrev pub Opens : Parameters → ℕ → ℕ → Option Held → ℕ → Type 0

@@ -7,13 +7,14 @@
 ghost use Rattle.std.specs.Prelude.{◌≡◌, ◌≢◌, None, drop, slice_get};
 ghost use Rattle.cb_frames.specs.Fields.{One};
 ghost use Rattle.cb_history.specs.State.{time_in, stable_in};
+ghost use Rattle.cb_member.specs.Readings.{keeps_window_full_in, waiting_in};
 ghost use Rattle.cb_handle.specs.Copies.{copied};
 ghost use Rattle.cb_handle.specs.Frames.{frames_of, ShowsFrame, ShowsFrames};
 ghost use Rattle.cb_handle.specs.Events.{ShowsEvent, ShowsEvents};
 ghost use Rattle.cb_handle.specs.Entries.{ShowsEntry};
 ghost use Rattle.cb_handle.specs.Calling.{OnEach, counts_of, entries_held, events_held};
 ghost use Rattle.jolunza.specs.declared.code.TheConstants.{DONE};
-ghost use Rattle.jolunza.specs.Calls.{Calls, Casts, CastsBurst, Receives, Loads, ReceivesLoaded, ReceivesParts, Ticks, Helps, Reads, IsDone, ShowsAt, ShowsMissing, ShowsStable, Opens};
+ghost use Rattle.jolunza.specs.Calls.{Calls, Casts, CastsBurst, Receives, Loads, ReceivesLoaded, ReceivesParts, Ticks, Helps, Reads, IsDone, ShowsAcknowledged, ShowsAt, ShowsDelayed, ShowsMissing, ShowsStable, Opens};
 
 mod code;
 #[cfg(test)]
@@ -21,9 +22,10 @@ mod tests;
 mod told;
 
 use crate::code::{CLOSED, DONE, NO_MEMORY};
-use crate::told::{tell_loaded, tell_missing, tell_parts, tell_received, tell_stable};
+use crate::told::{tell_count, tell_delayed, tell_loaded, tell_missing, tell_parts, tell_received};
 use cb_handle::{
-    Counts, EntryHead, EventHead, FrameHead, Handle, Held, Name, Range, Received, put, take,
+    Counts, Delayed, EntryHead, EventHead, FrameHead, Handle, Held, Name, Range, Received, put,
+    take,
 };
 use std::alloc::{AllocError, Global};
 
@@ -380,7 +382,83 @@ pub extern "C" fn jolunza_stable_of(
     };
     let answer = held.stable_of(member);
     put(handle, held);
-    tell_stable(answer, count)
+    tell_count(answer, count)
+}
+
+/// How many casts of this member a member is known to have delivered; this one has delivered all.
+#[unsafe(no_mangle)]
+pub extern "C" fn jolunza_acknowledged_by(
+    alloc: Global,
+    handle: &mut Handle,
+    member: u32,
+    count: &mut u32,
+) -> u32
+    ensures shows { Calls (Reads (ShowsAcknowledged member count.new))
+        handle.old.held handle.new.held result }
+    ensures same { result ≢ DONE → count.new ≡ count.old }
+{
+    let Some(held) = take(alloc, handle) else {
+        return CLOSED;
+    };
+    let answer = held.acknowledged_by(member);
+    put(handle, held);
+    tell_count(answer, count)
+}
+
+/// Whether another member keeps the window full: of as many of the last own casts as the window is wide it is not known to have
+/// delivered any.
+#[unsafe(no_mangle)]
+pub extern "C" fn jolunza_keeps_window_full(
+    alloc: Global,
+    handle: &mut Handle,
+    member: u32,
+    full: &mut bool,
+) -> u32
+    ensures shows { Calls (Reads (IsDone (λ held. OnEach held (λ m. full.new
+        ≡ keeps_window_full_in m member)))) handle.old.held handle.new.held result }
+    ensures same { result ≢ DONE → full.new ≡ full.old }
+{
+    let Some(held) = take(alloc, handle) else {
+        return CLOSED;
+    };
+    *full = held.keeps_window_full(member);
+    put(handle, held);
+    DONE
+}
+
+/// How many messages wait: they were received and are not delivered.
+#[unsafe(no_mangle)]
+pub extern "C" fn jolunza_waiting(alloc: Global, handle: &mut Handle, count: &mut u32) -> u32
+    ensures shows { Calls (Reads (IsDone (λ held. OnEach held (λ m. count.new ≡ waiting_in m))))
+        handle.old.held handle.new.held result }
+    ensures same { result ≢ DONE → count.new ≡ count.old }
+{
+    let Some(held) = take(alloc, handle) else {
+        return CLOSED;
+    };
+    *count = held.waiting();
+    put(handle, held);
+    DONE
+}
+
+/// The first message of a member that waits, and what it waits for.
+#[unsafe(no_mangle)]
+pub extern "C" fn jolunza_waits_for(
+    alloc: Global,
+    handle: &mut Handle,
+    member: u32,
+    delayed: &mut Delayed,
+) -> u32
+    ensures shows { Calls (Reads (ShowsDelayed member delayed.new))
+        handle.old.held handle.new.held result }
+    ensures same { result ≢ DONE → delayed.new ≡ delayed.old }
+{
+    let Some(held) = take(alloc, handle) else {
+        return CLOSED;
+    };
+    let answer = held.waits_for(member);
+    put(handle, held);
+    tell_delayed(answer, delayed)
 }
 
 /// The casts of another member that are missing, as far as they fit.

@@ -9,6 +9,7 @@ mod helping;
 mod loading;
 mod parts;
 mod reading;
+mod watching;
 
 use crate::code::DONE;
 use crate::{jolunza_cast, jolunza_count, jolunza_frame, jolunza_open, jolunza_receive};

@@ -2,10 +2,10 @@
 
 ghost use Rattle.std.specs.Prelude.{◌≡◌, MatchOption, MatchResult};
 ghost use Rattle.jolunza.specs.Codes.{arrive_code, loaded_code, missing_code};
-ghost use Rattle.jolunza.specs.declared.code.TheConstants.{DONE, BAD_MEMBER};
+ghost use Rattle.jolunza.specs.declared.code.TheConstants.{DONE, BAD_MEMBER, NONE_THERE};
 
-use crate::code::{self, BAD_MEMBER, DONE};
-use cb_handle::{LoadedRefusal, Received};
+use crate::code::{self, BAD_MEMBER, DONE, NONE_THERE};
+use cb_handle::{Delayed, LoadedRefusal, Received};
 use cb_member::{ArriveRefusal, MissingFault};
 
 /// Fills in what received bytes did, where they were not refused.
@@ -61,16 +61,30 @@ pub fn tell_missing(answer: Result<usize, MissingFault>, count: &mut usize) -> u
     }
 }
 
-/// Fills in how many casts are stable, where the group has the member.
-pub fn tell_stable(answer: Option<u32>, stable: &mut u32) -> u32
-    ensures { MatchOption answer ((result ≡ BAD_MEMBER) × (stable.new ≡ stable.old))
-        (λ told. (result ≡ DONE) × (stable.new ≡ told)) }
+/// Fills in a count of a member, where the group has it.
+pub fn tell_count(answer: Option<u32>, number: &mut u32) -> u32
+    ensures { MatchOption answer ((result ≡ BAD_MEMBER) × (number.new ≡ number.old))
+        (λ told. (result ≡ DONE) × (number.new ≡ told)) }
 {
     match answer {
         Some(told) => {
-            *stable = told;
+            *number = told;
             DONE
         }
         None => BAD_MEMBER,
+    }
+}
+
+/// Fills in what waits, where something does.
+pub fn tell_delayed(answer: Option<Delayed>, delayed: &mut Delayed) -> u32
+    ensures { MatchOption answer ((result ≡ NONE_THERE) × (delayed.new ≡ delayed.old))
+        (λ told. (result ≡ DONE) × (delayed.new ≡ told)) }
+{
+    match answer {
+        Some(told) => {
+            *delayed = told;
+            DONE
+        }
+        None => NONE_THERE,
     }
 }
