@@ -46,6 +46,8 @@ struct filled {
     jolunza_entry_head entry;
     jolunza_name names[4];
     jolunza_range ranges[4];
+    jolunza_delayed delayed;
+    bool full;
     uint32_t times[16];
     uint8_t bytes[JOLUNZA_LONGEST_FRAME];
     size_t count;
@@ -128,6 +130,10 @@ static void test_closed(jolunza_handle *handle)
     CHECK(jolunza_time(handle, f->times, 16) == JOLUNZA_CLOSED);
     CHECK(jolunza_stable(handle, f->times) == JOLUNZA_CLOSED);
     CHECK(jolunza_stable_of(handle, 0, f->times) == JOLUNZA_CLOSED);
+    CHECK(jolunza_acknowledged_by(handle, 0, f->times) == JOLUNZA_CLOSED);
+    CHECK(jolunza_keeps_window_full(handle, 0, &f->full) == JOLUNZA_CLOSED);
+    CHECK(jolunza_waiting(handle, f->times) == JOLUNZA_CLOSED);
+    CHECK(jolunza_waits_for(handle, 0, &f->delayed) == JOLUNZA_CLOSED);
     CHECK(jolunza_missing(handle, 1, f->ranges, 4, &f->count) == JOLUNZA_CLOSED);
     CHECK(IS_UNTOUCHED(filled));
     CHECK(!handle->is_open);
@@ -810,6 +816,81 @@ static void test_stable_of(void)
     jolunza_close(&handle);
 }
 
+static bool keeps_full(jolunza_handle *handle, uint32_t member, bool full)
+{
+    untouched();
+    return jolunza_keeps_window_full(handle, member, &filled.full) == JOLUNZA_DONE && filled.full == full;
+}
+
+static void test_window_kept_full(void)
+{
+    jolunza_handle handle = JOLUNZA_CLOSED_HANDLE;
+    struct filled *f = &filled;
+
+    open_new(&handle, 0);
+    for (int i = 0; i < WINDOW; i++) {
+        CHECK(keeps_full(&handle, 1, false));
+        CHECK(cast(&handle, "hi") == JOLUNZA_DONE);
+    }
+    CHECK(keeps_full(&handle, 0, false) && keeps_full(&handle, 1, true) && keeps_full(&handle, 2, true));
+    CHECK(keeps_full(&handle, 3, false));
+    CHECK(receive(&handle, BYTES(0x12, 7, 1, 1, 0, 1)) == JOLUNZA_DONE);
+    CHECK(keeps_full(&handle, 1, false) && keeps_full(&handle, 2, true));
+    untouched();
+    CHECK(jolunza_acknowledged_by(&handle, 3, f->times) == JOLUNZA_BAD_MEMBER && IS_UNTOUCHED(filled));
+    CHECK(jolunza_acknowledged_by(&handle, 0, f->times) == JOLUNZA_DONE && f->times[0] == WINDOW);
+    CHECK(jolunza_acknowledged_by(&handle, 1, f->times) == JOLUNZA_DONE && f->times[0] == 1);
+    CHECK(jolunza_acknowledged_by(&handle, 2, f->times) == JOLUNZA_DONE && f->times[0] == 0 && IS_UNTOUCHED(f->times[1]));
+    jolunza_close(&handle);
+}
+
+static bool waiting(jolunza_handle *handle, uint32_t count)
+{
+    untouched();
+    return jolunza_waiting(handle, filled.times) == JOLUNZA_DONE && filled.times[0] == count && IS_UNTOUCHED(filled.times[1]);
+}
+
+/* The first message of a member that waits has this number, and waits for these messages of another. */
+static bool waits_for(jolunza_handle *handle, uint32_t member, uint32_t number, uint32_t sender, uint32_t first, uint32_t last)
+{
+    const jolunza_delayed *d = &filled.delayed;
+
+    untouched();
+    return jolunza_waits_for(handle, member, &filled.delayed) == JOLUNZA_DONE && d->is_ready == (sender == 0 && first == 0)
+        && d->number == number && d->sender == sender && d->first == first && d->last == last;
+}
+
+static bool none_waits(jolunza_handle *handle, uint32_t member)
+{
+    untouched();
+    return jolunza_waits_for(handle, member, &filled.delayed) == JOLUNZA_NONE_THERE && IS_UNTOUCHED(filled);
+}
+
+static void test_waiting(void)
+{
+    jolunza_handle handle = JOLUNZA_CLOSED_HANDLE;
+
+    open_new(&handle, 2);
+    CHECK(waiting(&handle, 0) && none_waits(&handle, 0) && none_waits(&handle, 1) && none_waits(&handle, 3));
+    /* an answer to the second message of member 0, and its third message */
+    CHECK(receive(&handle, BYTES(0x11, 7, 1, 1, 1, 0, 2, 0)) == JOLUNZA_DONE);
+    CHECK(receive(&handle, BYTES(0x11, 7, 0, 3, 0, 0)) == JOLUNZA_DONE);
+    CHECK(waiting(&handle, 2) && waits_for(&handle, 0, 3, 0, 1, 2) && waits_for(&handle, 1, 1, 0, 1, 2));
+    CHECK(none_waits(&handle, 2));
+    CHECK(receive(&handle, BYTES(0x11, 7, 0, 1, 0, 0)) == JOLUNZA_DONE);
+    CHECK(waiting(&handle, 2) && waits_for(&handle, 0, 3, 0, 2, 2) && waits_for(&handle, 1, 1, 0, 2, 2));
+    CHECK(receive(&handle, BYTES(0x11, 7, 0, 2, 0, 0)) == JOLUNZA_DONE);
+    CHECK(waiting(&handle, 0) && none_waits(&handle, 0) && none_waits(&handle, 1));
+    /* forged: it counts a message that this member has not cast, and once it has lacks nothing more */
+    CHECK(receive(&handle, BYTES(0x11, 7, 1, 2, 1, 2, 1, 0)) == JOLUNZA_DONE);
+    CHECK(waiting(&handle, 1) && waits_for(&handle, 1, 2, 2, 1, 1));
+    CHECK(cast(&handle, "hi") == JOLUNZA_DONE);
+    CHECK(waiting(&handle, 1) && waits_for(&handle, 1, 2, 0, 0, 0));
+    CHECK(receive(&handle, BYTES(0x11, 7, 0, 4, 0, 0)) == JOLUNZA_DONE);
+    CHECK(waiting(&handle, 0) && none_waits(&handle, 1));
+    jolunza_close(&handle);
+}
+
 static void test_missing(void)
 {
     jolunza_handle handle = JOLUNZA_CLOSED_HANDLE;
@@ -884,6 +965,8 @@ int main(void)
     test_entry();
     test_time_and_stable();
     test_stable_of();
+    test_window_kept_full();
+    test_waiting();
     test_missing();
     test_moves();
     printf("%u passed, %u failed\n", passed, failed);

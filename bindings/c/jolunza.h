@@ -51,8 +51,8 @@ enum jolunza_code {
     JOLUNZA_CLOSED = 1,           /* the handle holds no member */
     JOLUNZA_NO_MEMORY = 2,        /* try again */
     JOLUNZA_BAD_GROUP = 3,        /* open: the size is not 2 to 64, or the window not 1 to 256 */
-    JOLUNZA_BAD_MEMBER = 4,       /* open, receive, help, missing, stable_of: a number that no member of the group has; help and
-                                     missing: its own too */
+    JOLUNZA_BAD_MEMBER = 4,       /* open, receive, help, missing, stable_of, acknowledged_by: a number that no member of the group
+                                     has; help and missing: its own too */
     JOLUNZA_BAD_LIMIT = 5,        /* open: the limit of the history is above 16,777,216 */
     JOLUNZA_PAYLOAD_TOO_LONG = 6, /* cast: more than 1,024 bytes; cast_burst: all payloads together */
     JOLUNZA_WINDOW_FULL = 7,      /* cast, cast_burst: wait for the others' statuses, keep the payloads, try again; a burst wants
@@ -64,7 +64,7 @@ enum jolunza_code {
     JOLUNZA_TOO_FAR = 11,         /* receive: beyond the window; drop the frame, it comes again */
     JOLUNZA_MALFORMED = 12,       /* receive: no frame; drop the bytes */
     JOLUNZA_NONE_THERE = 13,      /* frame, event, entry: the index is not below the count; of a part: it is not loaded;
-                                     cast_burst: the lengths say more bytes than there are */
+                                     cast_burst: the lengths say more bytes than there are; waits_for: nothing waits */
     JOLUNZA_OVERLAP = 14,         /* receive: a part of the burst was received before, and a part was not; drop the frame */
     JOLUNZA_EMPTY_BURST = 15,     /* cast_burst: no payload */
     JOLUNZA_BURST_TOO_LONG = 16   /* cast_burst: more than 32 payloads */
@@ -126,6 +126,18 @@ typedef struct jolunza_range {
     uint32_t first;
     uint32_t last;
 } jolunza_range;
+
+/*
+ * Of the first message of a member that waits: its number, and the messages that it waits for, those from `first` to `last` of
+ * `sender`.
+ */
+typedef struct jolunza_delayed {
+    bool is_ready;   /* it waits for none, and is delivered with the next cast that is received; then the three last are 0 */
+    uint32_t number;
+    uint32_t sender;
+    uint32_t first;  /* the next message of `sender` that is to be delivered */
+    uint32_t last;
+} jolunza_delayed;
 
 /*
  * Opens a member; a handle that is open is closed first. After another code than JOLUNZA_DONE the handle is closed. The
@@ -231,6 +243,28 @@ uint32_t jolunza_stable(jolunza_handle *handle, uint32_t *count);
  * has delivered itself. BAD_MEMBER where the group has no such member.
  */
 uint32_t jolunza_stable_of(jolunza_handle *handle, uint32_t member, uint32_t *count);
+
+/*
+ * How many of this member's casts a member is known to have delivered; this one has delivered all. BAD_MEMBER where the group has
+ * no such member.
+ */
+uint32_t jolunza_acknowledged_by(jolunza_handle *handle, uint32_t member, uint32_t *count);
+
+/*
+ * Whether another member keeps the window full: it is not known to have delivered any of the last casts of this one, of as many as
+ * the window is wide. `full` is false of this one, and of who is no member.
+ */
+uint32_t jolunza_keeps_window_full(jolunza_handle *handle, uint32_t member, bool *full);
+
+/* How many messages wait: they were received and are not delivered, since something before them is missing. */
+uint32_t jolunza_waiting(jolunza_handle *handle, uint32_t *count);
+
+/*
+ * The first message of a member that waits, and what it waits for: the messages of one member that are not delivered here. Of a
+ * message behind a gap of its own sender it is the gap; else of the members of whom some are missing the smallest. NONE_THERE where no
+ * message of the member waits, and where the group has no such member.
+ */
+uint32_t jolunza_waits_for(jolunza_handle *handle, uint32_t member, jolunza_delayed *delayed);
 
 /* The casts of another member that are missing, as rising ranges, as far as they fit; `count` tells how many there are. */
 uint32_t jolunza_missing(jolunza_handle *handle, uint32_t member, jolunza_range *ranges, size_t capacity, size_t *count);

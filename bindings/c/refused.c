@@ -163,6 +163,17 @@ static void add_entries(jolunza_handle *handle)
     }
 }
 
+static void add_delayed(jolunza_handle *handle, uint32_t member)
+{
+    jolunza_delayed delayed = {false, 0, 0, 0, 0};
+
+    add_number(jolunza_waits_for(handle, member, &delayed));
+    add_number(delayed.number);
+    add_number(delayed.sender);
+    add_number(delayed.first);
+    add_number(delayed.last);
+}
+
 static uint64_t digest_of(jolunza_handle *handle)
 {
     uint32_t time[SIZE] = {0, 0, 0}, stable = 0;
@@ -175,9 +186,14 @@ static uint64_t digest_of(jolunza_handle *handle)
     add(time, sizeof time);
     add_number(jolunza_stable(handle, &stable));
     add_number(stable);
+    add_number(jolunza_waiting(handle, &stable));
+    add_number(stable);
     for (uint32_t member = 0; member < SIZE; member++) {
         add_number(jolunza_stable_of(handle, member, &stable));
         add_number(stable);
+        add_number(jolunza_acknowledged_by(handle, member, &stable));
+        add_number(stable);
+        add_delayed(handle, member);
     }
     return digest;
 }

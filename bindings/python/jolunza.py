@@ -124,6 +124,21 @@ class Entry(NamedTuple):
     delivered: tuple[Name, ...]
 
 
+class Awaited(NamedTuple):
+    """Messages of one member that are not delivered here; the first one is the sender's next that is to be delivered."""
+
+    sender: int
+    numbers: range
+
+
+class Delayed(NamedTuple):
+    """The first message of a member that waits, and what it waits for; where that is None all of its past is delivered here, and it is
+    delivered with the next cast that is received."""
+
+    name: Name
+    awaits: Optional[Awaited]
+
+
 # The structures and functions of the header, with its names. `bindings/check_header.py` compares them with it.
 
 
@@ -157,6 +172,16 @@ class jolunza_name(Structure):
 
 class jolunza_range(Structure):
     _fields_ = [("first", c_uint32), ("last", c_uint32)]
+
+
+class jolunza_delayed(Structure):
+    _fields_ = [
+        ("is_ready", c_bool),
+        ("number", c_uint32),
+        ("sender", c_uint32),
+        ("first", c_uint32),
+        ("last", c_uint32),
+    ]
 
 
 class const_size_t(POINTER(c_size_t)):  # type: ignore[misc]
@@ -258,6 +283,10 @@ FUNCTIONS: dict[str, tuple[Any, list[tuple[str, Any]]]] = {
     "jolunza_time": (c_uint32, [HANDLE, ("time", POINTER(c_uint32)), ("capacity", c_size_t)]),
     "jolunza_stable": (c_uint32, [HANDLE, ("count", POINTER(c_uint32))]),
     "jolunza_stable_of": (c_uint32, [HANDLE, ("member", c_uint32), ("count", POINTER(c_uint32))]),
+    "jolunza_acknowledged_by": (c_uint32, [HANDLE, ("member", c_uint32), ("count", POINTER(c_uint32))]),
+    "jolunza_keeps_window_full": (c_uint32, [HANDLE, ("member", c_uint32), ("full", POINTER(c_bool))]),
+    "jolunza_waiting": (c_uint32, [HANDLE, ("count", POINTER(c_uint32))]),
+    "jolunza_waits_for": (c_uint32, [HANDLE, ("member", c_uint32), ("delayed", POINTER(jolunza_delayed))]),
     "jolunza_missing": (
         c_uint32,
         [
@@ -458,6 +487,41 @@ class Member:
         with self._lock:
             self._call("stable_of", _number(member, 32), byref(count))
         return count.value
+
+    def acknowledged_by(self, member: int) -> int:
+        """How many of this member's casts a member is known to have delivered; this one has delivered all."""
+        count = c_uint32()
+        with self._lock:
+            self._call("acknowledged_by", _number(member, 32), byref(count))
+        return count.value
+
+    def keeps_window_full(self, member: int) -> bool:
+        """Whether another member keeps the window full: it is not known to have delivered any of the last casts of this one, of as
+        many as the window is wide."""
+        full = c_bool()
+        with self._lock:
+            self._call("keeps_window_full", _number(member, 32), byref(full))
+        return full.value
+
+    def waiting(self) -> int:
+        """How many messages wait: they were received and are not delivered, since something before them is missing."""
+        count = c_uint32()
+        with self._lock:
+            self._call("waiting", byref(count))
+        return count.value
+
+    def waits_for(self, member: int) -> Optional[Delayed]:
+        """The first message of a member that waits, and what it waits for; None where none of it waits, and of who is no member."""
+        delayed = jolunza_delayed()
+        try:
+            with self._lock:
+                self._call("waits_for", _number(member, 32), byref(delayed))
+        except Refusal as refusal:
+            if refusal.code is Code.NONE_THERE:
+                return None
+            raise
+        awaits = None if delayed.is_ready else Awaited(delayed.sender, range(delayed.first, delayed.last + 1))
+        return Delayed(Name(member, delayed.number), awaits)
 
     def missing(self, member: int) -> list[range]:
         """The numbers of the casts of another member that are missing, in rising ranges."""

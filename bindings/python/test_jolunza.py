@@ -19,7 +19,7 @@ from unittest import mock
 import jolunza
 import redis_group
 import three_members
-from jolunza import Code, Counts, Entry, Event, Frame, Kind, Member, Name, Received, Refusal
+from jolunza import Awaited, Code, Counts, Delayed, Entry, Event, Frame, Kind, Member, Name, Received, Refusal
 from journal import BURST, Journal, Record, make, records
 
 HI = bytes.fromhex("11 07 00 01 00 02 68 69")
@@ -69,6 +69,10 @@ def calls(member: Member) -> tuple[Callable[[], object], ...]:
         member.time,
         member.stable,
         lambda: member.stable_of(1),
+        lambda: member.acknowledged_by(1),
+        lambda: member.keeps_window_full(1),
+        member.waiting,
+        lambda: member.waits_for(1),
         lambda: member.missing(1),
     )
 
@@ -92,11 +96,11 @@ class Slow:
 class Case(unittest.TestCase):
     def refuses(self, code: Code, member: Member, record: Record) -> None:
         """The call is refused just so, and changes nothing."""
-        before = state(member)
+        before = (state(member), watched(member))
         with self.assertRaises(Refusal) as raised:
             make(member, record)
         self.assertEqual(raised.exception.code, code)
-        self.assertEqual(state(member), before)
+        self.assertEqual((state(member), watched(member)), before)
 
     def answers(self, member: Member, given: str, answer: object) -> None:
         record = Record(Kind.ARRIVE, bytes.fromhex(given))
@@ -110,6 +114,12 @@ def state(member: Member) -> tuple[object, ...]:
     """All that can be read of it."""
     read = (member.counts(), member.frames(), list(member.events()), list(member.entries()))
     return (*read, member.time(), member.stable(), [member.stable_of(other) for other in range(3)], missing(member))
+
+
+def watched(member: Member) -> tuple[object, ...]:
+    """What is read of it by who watches it."""
+    reads = (member.acknowledged_by, member.keeps_window_full, member.waits_for)
+    return (member.waiting(), [[read(other) for read in reads] for other in range(3)])
 
 
 def helps(member: Member) -> list[list[Frame]]:
@@ -267,6 +277,30 @@ class WorkedExamples(Case):
             member.receive(bytes.fromhex("11 07 00 02 00 01 62"))
             self.assertEqual(helps(member), [[], []])
 
+    def test_what_waits_tells_what_it_waits_for(self) -> None:
+        member = after(2, bytes.fromhex("11 07 01 01 01 00 02 00"), bytes.fromhex("11 07 00 03 00 00"))
+        both = Awaited(0, range(1, 3))
+        self.assertEqual(member.waiting(), 2)
+        self.assertEqual(member.waits_for(0), Delayed(Name(0, 3), both))
+        self.assertEqual(member.waits_for(1), Delayed(Name(1, 1), both))
+        self.assertEqual((member.waits_for(2), member.waits_for(3)), (None, None))
+        member.receive(bytes.fromhex("21 07 00 01 00 02 00 00"))
+        self.assertEqual((member.waiting(), member.waits_for(0), member.waits_for(1)), (0, None, None))
+        # forged: it counts a message that this member has yet to cast
+        member.receive(bytes.fromhex("11 07 01 02 01 02 01 00"))
+        self.assertEqual(member.waits_for(1), Delayed(Name(1, 2), Awaited(2, range(1, 2))))
+        member.cast(b"")
+        self.assertEqual(member.waits_for(1), Delayed(Name(1, 2), None))
+
+    def test_who_delivered_none_of_the_last_casts_keeps_the_window_full(self) -> None:
+        member, _ = that_cast(0, b"a", b"b", b"c")
+        self.assertEqual([member.keeps_window_full(other) for other in range(4)], [False] * 4)
+        member.cast(b"d")
+        self.assertEqual([member.keeps_window_full(other) for other in range(4)], [False, True, True, False])
+        member.receive(bytes.fromhex("12 07 01 01 00 01"))
+        self.assertEqual([member.keeps_window_full(other) for other in range(4)], [False, False, True, False])
+        self.assertEqual([member.acknowledged_by(other) for other in range(3)], [4, 1, 0])
+
     def test_a_helper_hands_on_what_it_has_delivered(self) -> None:
         frames = [bytes.fromhex("11 07 00 01 00 01 61"), bytes.fromhex("11 07 00 02 00 01 62")]
         for window, handed_on in ((4, frames), (1, frames[1:])):
@@ -354,6 +388,12 @@ class Refusals(Case):
         for member in (3, 0xFFFF_FFFF):
             with self.assertRaises(Refusal) as raised:
                 opened(1).stable_of(member)
+            self.assertEqual(raised.exception.code, Code.BAD_MEMBER)
+
+    def test_of_who_has_acknowledged(self) -> None:
+        for member in (3, 0xFFFF_FFFF):
+            with self.assertRaises(Refusal) as raised:
+                opened(1).acknowledged_by(member)
             self.assertEqual(raised.exception.code, Code.BAD_MEMBER)
 
     def test_of_help(self) -> None:
@@ -577,6 +617,9 @@ class Values(Case):
             opened(0).missing((1 << 32) + 1)
         with self.assertRaises(OverflowError):
             opened(0).stable_of(1 << 32)
+        for read in (opened(0).acknowledged_by, opened(0).keeps_window_full, opened(0).waits_for):
+            with self.assertRaises(OverflowError):
+                read(1 << 32)
         with self.assertRaises(OverflowError):
             opened(0).help(1 << 32)
         for read in (opened(0).events, opened(0).entries):

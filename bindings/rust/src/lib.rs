@@ -62,7 +62,7 @@ pub mod sys;
 pub use entries::Entry;
 pub use events::{Event, Events};
 pub use frames::{Frame, Frames};
-pub use member::{Counts, Member, Name, Received, Settings};
+pub use member::{Awaited, Counts, Delayed, Member, Name, Received, Settings};
 pub use refusal::Refusal;
 
 /// The most bytes of a payload, and of all payloads of a burst.

@@ -61,6 +61,22 @@ pub struct Counts {
     pub entries: usize,
 }
 
+/// The first message of a member that waits, and what it waits for.
+#[derive(Clone, Debug, PartialEq, Eq, Hash)]
+pub struct Delayed {
+    pub name: Name,
+    /// `None` where all of its past is delivered here: it is delivered with the next cast that is received.
+    pub awaits: Option<Awaited>,
+}
+
+/// Messages of one member that are not delivered here.
+#[derive(Clone, Debug, PartialEq, Eq, Hash)]
+pub struct Awaited {
+    pub sender: u32,
+    /// Their numbers. The first one is the sender's next that is to be delivered.
+    pub numbers: RangeInclusive<u32>,
+}
+
 /// One member of a group.
 ///
 /// Of one group each member number is opened once in the world. Who begins anew under an old number is ignored by the
@@ -347,6 +363,39 @@ impl Member {
         let mut count = 0;
         answered(unsafe { sys::jolunza_stable_of(self.handle.get(), member, &mut count) })?;
         Ok(count)
+    }
+
+    /// How many of this member's casts a member is known to have delivered; this one has delivered all. `BadMember` of who is none.
+    pub fn acknowledged_by(&self, member: u32) -> Result<u32, Refusal> {
+        let mut count = 0;
+        answered(unsafe { sys::jolunza_acknowledged_by(self.handle.get(), member, &mut count) })?;
+        Ok(count)
+    }
+
+    /// Whether another member keeps the window full: it is not known to have delivered any of the last casts of this one, of as many
+    /// as the window is wide.
+    pub fn keeps_window_full(&self, member: u32) -> bool {
+        let mut full = false;
+        let code = unsafe { sys::jolunza_keeps_window_full(self.handle.get(), member, &mut full) };
+        answered(code).expect("an open member has its window");
+        full
+    }
+
+    /// How many messages wait: they were received and are not delivered, since something before them is missing.
+    pub fn waiting(&self) -> u32 {
+        let mut count = 0;
+        let code = unsafe { sys::jolunza_waiting(self.handle.get(), &mut count) };
+        answered(code).expect("an open member has what waits");
+        count
+    }
+
+    /// The first message of a member that waits, and what it waits for; `None` where none of it waits, and of who is no member.
+    pub fn waits_for(&self, member: u32) -> Option<Delayed> {
+        let mut delayed = sys::jolunza_delayed::default();
+        answered(unsafe { sys::jolunza_waits_for(self.handle.get(), member, &mut delayed) }).ok()?;
+        let sys::jolunza_delayed { is_ready, number, sender, first, last } = delayed;
+        let awaits = (!is_ready).then_some(Awaited { sender, numbers: first..=last });
+        Some(Delayed { name: Name { sender: member, number }, awaits })
     }
 
     /// The casts of another member that are missing, as rising ranges. `BadMember` of this one and of who is none.

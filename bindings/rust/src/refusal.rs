@@ -14,8 +14,8 @@ pub enum Refusal {
     NoMemory = sys::JOLUNZA_NO_MEMORY,
     /// `open`: the size is not 2 to 64, or the window not 1 to 256.
     BadGroup = sys::JOLUNZA_BAD_GROUP,
-    /// `open`, `receive`, `help`, `missing`, `stable_of`: a member's number that the group does not have; `help`, `missing`:
-    /// the member's own.
+    /// `open`, `receive`, `help`, `missing`, `stable_of`, `acknowledged_by`: a member's number that the group does not have;
+    /// `help`, `missing`: the member's own.
     BadMember = sys::JOLUNZA_BAD_MEMBER,
     /// `open`: the limit of the history is above 16,777,216.
     BadLimit = sys::JOLUNZA_BAD_LIMIT,

@@ -93,6 +93,16 @@ pub struct jolunza_range {
     pub last: u32,
 }
 
+#[repr(C)]
+#[derive(Clone, Copy, Debug, Default)]
+pub struct jolunza_delayed {
+    pub is_ready: bool,
+    pub number: u32,
+    pub sender: u32,
+    pub first: u32,
+    pub last: u32,
+}
+
 extern "C" {
     pub fn jolunza_open(
         handle: *mut jolunza_handle,
@@ -200,6 +210,14 @@ extern "C" {
     pub fn jolunza_stable(handle: *mut jolunza_handle, count: *mut u32) -> u32;
 
     pub fn jolunza_stable_of(handle: *mut jolunza_handle, member: u32, count: *mut u32) -> u32;
+
+    pub fn jolunza_acknowledged_by(handle: *mut jolunza_handle, member: u32, count: *mut u32) -> u32;
+
+    pub fn jolunza_keeps_window_full(handle: *mut jolunza_handle, member: u32, full: *mut bool) -> u32;
+
+    pub fn jolunza_waiting(handle: *mut jolunza_handle, count: *mut u32) -> u32;
+
+    pub fn jolunza_waits_for(handle: *mut jolunza_handle, member: u32, delayed: *mut jolunza_delayed) -> u32;
 
     pub fn jolunza_missing(
         handle: *mut jolunza_handle,

@@ -30,6 +30,10 @@ fn answer(member: &mut Member, call: &str) -> String {
         "time" => printed_time(&member.time()),
         "stable" => member.stable().to_string(),
         "stable_of" => stable_of(member, rest.parse().unwrap()),
+        "acknowledged_by" => acknowledged_by(member, rest.parse().unwrap()),
+        "keeps_window_full" => member.keeps_window_full(rest.parse().unwrap()).to_string(),
+        "waiting" => member.waiting().to_string(),
+        "waits_for" => waits_for(member, rest.parse().unwrap()),
         "missing" => missing(member, rest.parse().unwrap()),
         "events" => events(member),
         "entries" => entries(member),
@@ -119,6 +123,20 @@ fn stable_of(member: &Member, other: u32) -> String {
         Ok(count) => count.to_string(),
         Err(refusal) => format!("{refusal:?}"),
     }
+}
+
+fn acknowledged_by(member: &Member, other: u32) -> String {
+    match member.acknowledged_by(other) {
+        Ok(count) => count.to_string(),
+        Err(refusal) => format!("{refusal:?}"),
+    }
+}
+
+fn waits_for(member: &Member, other: u32) -> String {
+    let Some(delayed) = member.waits_for(other) else { return "none".into() };
+    let Some(awaits) = delayed.awaits else { return format!("{}: the next cast", delayed.name) };
+    let numbers = awaits.numbers;
+    format!("{}: {}.{}-{}", delayed.name, awaits.sender, numbers.start(), numbers.end())
 }
 
 fn missing(member: &Member, other: u32) -> String {

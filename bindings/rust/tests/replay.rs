@@ -65,6 +65,8 @@ fn entered(member: &mut Member) -> Option<String> {
 fn reading(member: &mut Member) -> Vec<String> {
     let mut lines = vec![format!("{:?} {}", member.time(), member.stable())];
     lines.extend((0..SIZE).map(|other| format!("{:?} {:?}", member.stable_of(other), member.missing(other))));
+    lines.push(member.waiting().to_string());
+    lines.extend((0..SIZE).map(|other| format!("{:?} {:?}", member.acknowledged_by(other), member.waits_for(other))));
     lines.extend((0..SIZE).map(|other| format!("{:?} {:?}", member.help(other), frames(member))));
     if member.settings().history_max == 0 {
         return lines;
