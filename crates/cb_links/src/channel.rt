@@ -4,16 +4,17 @@ ghost use Rattle.std.specs.Prelude.{◌≡◌, ◌≤◌, IfErr, IfOk, length};
 ghost use Rattle.cb_links.specs.Counts.{LinkCounts};
 ghost use Rattle.cb_links.specs.Offers.{bytes_for, is_for};
 
-use crate::link::{Inlet, LinkFault, Offered, Outlet, Received, Unsent};
+use crate::link::{Inlet, LinkFault, Offered, Outlet, Received, Unsent, WaitingInlet};
 use crate::mailbox::{Mailbox, Slot, Taken, new_mailbox};
-use crate::waits::wait;
+use crate::waits::WAIT;
 use bytes::Bytes;
 use cb_history::Outgoing;
 use crossbeam_channel::SendError;
 use std::alloc::{AllocError, Global};
 use std::slice;
 use std::sync::Wait;
-use std::time::Clock;
+use std::thread::sleep;
+use std::time::{Clock, Duration};
 use std::vec::IntoIter;
 
 /// Links over channels.
@@ -127,20 +128,39 @@ impl Inlet for ChannelInlet {
             Some(arrivals) => arrivals.take(rt),
             None => Taken::Closed,
         };
-        match taken {
-            Taken::Message(frame) => Ok(Received::Frame(frame)),
-            Taken::Nothing => Ok(Received::Nothing),
-            Taken::Closed => {
-                // It was closed, or the senders are gone: nothing has waited yet.
-                wait(rt);
-                Ok(Received::Nothing)
-            }
-        }
+        Ok(received(rt, taken, Duration::from_micros(WAIT)))
     }
 
     /// The mailbox is freed with all that it holds. Who sends to it is answered a fault.
     fn close(&mut self) {
         self.arrivals = None;
+    }
+}
+
+impl WaitingInlet for ChannelInlet {
+    fn receive_within<R: Wait + Clock>(
+        &mut self,
+        rt: &R,
+        longest: Duration,
+    ) -> Result<Received, LinkFault> {
+        let taken = match &mut self.arrivals {
+            Some(arrivals) => arrivals.take_within(rt, longest),
+            None => Taken::Closed,
+        };
+        Ok(received(rt, taken, longest))
+    }
+}
+
+/// What was taken is received. Of a mailbox that was closed, or whose senders are gone, nothing has
+/// waited yet.
+fn received(rt: &impl Clock, taken: Taken<Bytes>, longest: Duration) -> Received {
+    match taken {
+        Taken::Message(frame) => Received::Frame(frame),
+        Taken::Nothing => Received::Nothing,
+        Taken::Closed => {
+            sleep(rt, longest);
+            Received::Nothing
+        }
     }
 }
 
@@ -150,7 +170,22 @@ impl Arrivals {
         if let Some(frame) = self.came.next() {
             return Taken::Message(frame);
         }
-        match self.from.take(rt) {
+        let taken = self.from.take(rt);
+        self.first_of(taken)
+    }
+
+    /// The same, where none is let gather, and one is waited for so long at most.
+    fn take_within<R: Wait>(&mut self, rt: &R, longest: Duration) -> Taken<Bytes> {
+        if let Some(frame) = self.came.next() {
+            return Taken::Message(frame);
+        }
+        let taken = self.from.take_within(rt, longest);
+        self.first_of(taken)
+    }
+
+    /// The first of the frames that were taken out; the others are kept.
+    fn first_of(&mut self, taken: Taken<Vec<Bytes>>) -> Taken<Bytes> {
+        match taken {
             Taken::Message(frames) => {
                 self.came = frames.into_iter();
                 first_of(&mut self.came)

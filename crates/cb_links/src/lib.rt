@@ -24,7 +24,7 @@ pub use cb_frames::LONGEST_FRAME;
 pub use channel::{ChannelInlet, ChannelLink, ChannelOutlet};
 pub use failing::{FailInlet, FailOutlet};
 pub use laws::each_frame_fits;
-pub use link::{Inlet, LinkFault, Outlet, Received, Unsent, and_fault};
+pub use link::{Inlet, LinkFault, Outlet, Received, Unsent, WaitingInlet, and_fault};
 pub use mailbox::{MOST_AT_ONCE, Mailbox, Slot, Taken, new_mailbox};
 pub use tcp::{TcpInlet, TcpLink, TcpOutlet};
 pub use udp::{UdpInlet, UdpLink, UdpOutlet};

@@ -12,7 +12,7 @@ use std::alloc::{AllocError, AllocFailed};
 use std::error::Error;
 use std::io::ErrorKind;
 use std::sync::Wait;
-use std::time::Clock;
+use std::time::{Clock, Duration};
 use std::{fmt, io};
 
 /// Any port of the loopback address, which the system chooses.
@@ -96,6 +96,21 @@ pub trait Inlet {
     fn close(&mut self)
         ensures { failed self.new ≡ failed self.old }
     {}
+}
+
+/// An inlet that sleeps in its sockets until something comes.
+pub trait WaitingInlet: Inlet {
+    /// The next frame, where one is there or comes within `longest`; of a zero nothing is waited
+    /// for. It may answer `Nothing` before that time is over. Faults and counts are those of
+    /// `receive`.
+    fn receive_within<R: Wait + Clock>(
+        &mut self,
+        rt: &R,
+        longest: Duration,
+    ) -> Result<Received, LinkFault>
+        ensures rises { Self.failed self.old ≤ Self.failed self.new }
+        ensures fault { IfErr result (λ fault. LinkCounts fault (Self.failed self.old)
+            (Self.failed self.new)) };
 }
 
 /// Where the frames of a member go.

@@ -131,15 +131,20 @@ impl<M: Drop> Mailbox<M> {
     fn gather_and_sleep<R: Wait>(&self, rt: &R) -> Taken<M> {
         self.gather(rt);
         match self.look(rt) {
-            Taken::Nothing => self.sleep(rt, WAIT - GATHERING),
+            Taken::Nothing => self.sleep(rt, Duration::from_micros(WAIT - GATHERING)),
             taken => taken,
         }
     }
 
     /// Takes a message where many come at once: none is waited for where there is one.
     pub fn take_at_once<R: Wait>(&self, rt: &R) -> Taken<M> {
+        self.take_within(rt, Duration::from_micros(WAIT))
+    }
+
+    /// The next message, which is waited for so long at most where there is none.
+    pub(crate) fn take_within<R: Wait>(&self, rt: &R, longest: Duration) -> Taken<M> {
         match self.look(rt) {
-            Taken::Nothing => self.sleep(rt, WAIT),
+            Taken::Nothing => self.sleep(rt, longest),
             taken => taken,
         }
     }
@@ -162,7 +167,7 @@ impl<M: Drop> Mailbox<M> {
     pub(crate) fn gather<R: Wait>(&self, rt: &R) {
         self.reader.gathers.store(true, Ordering::SeqCst);
         if self.from.len() < ENOUGH_GATHERED {
-            self.park(rt, GATHERING);
+            self.park(rt, Duration::from_micros(GATHERING));
         }
         self.reader.gathers.store(false, Ordering::SeqCst);
     }
@@ -170,11 +175,11 @@ impl<M: Drop> Mailbox<M> {
     /// Sleeps until a message is put in, and at most for so long. A message that is put in while
     /// the reader falls asleep either is seen by the look or wakes it: each side tells of itself
     /// before it looks at the other.
-    fn sleep<R: Wait>(&self, rt: &R, micros: u64) -> Taken<M> {
+    fn sleep<R: Wait>(&self, rt: &R, longest: Duration) -> Taken<M> {
         self.reader.sleeps.store(true, Ordering::SeqCst);
         let taken = match self.look(rt) {
             Taken::Nothing => {
-                self.park(rt, micros);
+                self.park(rt, longest);
                 self.look(rt)
             }
             taken => taken,
@@ -183,9 +188,7 @@ impl<M: Drop> Mailbox<M> {
         taken
     }
 
-    fn park<R: Wait>(&self, rt: &R, micros: u64) {
-        self.reader
-            .parker
-            .park_timeout(rt, Duration::from_micros(micros));
+    fn park<R: Wait>(&self, rt: &R, longest: Duration) {
+        self.reader.parker.park_timeout(rt, longest);
     }
 }
