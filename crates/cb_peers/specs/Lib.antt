@@ -1,0 +1,4 @@
+pub mod Hellos
+pub mod MakeFaults
+pub mod Placing
+pub mod Pauses
