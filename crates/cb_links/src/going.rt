@@ -72,7 +72,7 @@ impl<S: Write + Drop> Going<S> {
     }
 
     /// Writes what is left, once. A stream that failed, or was interrupted, took nothing.
-    fn write(&mut self)
+    pub fn write(&mut self)
         ensures { Writes (S.contents self.old.stream) (S.contents self.new.stream)
             self.old.rest.items self.new.rest.items }
     {

@@ -22,11 +22,13 @@ mod waits;
 
 pub use cb_frames::LONGEST_FRAME;
 pub use channel::{ChannelInlet, ChannelLink, ChannelOutlet};
+pub use coming::{Coming, ROOM};
 pub use failing::{FailInlet, FailOutlet};
+pub use going::Going;
 pub use laws::each_frame_fits;
-pub use link::{Inlet, LinkFault, Outlet, Received, Unsent, WaitingInlet, and_fault};
+pub use link::{Inlet, LinkFault, Offered, Outlet, Received, Unsent, WaitingInlet, and_fault};
 pub use mailbox::{MOST_AT_ONCE, Mailbox, Slot, Taken, new_mailbox};
-pub use tcp::{TcpInlet, TcpLink, TcpOutlet};
+pub use tcp::{TcpInlet, TcpLink, TcpOutlet, offer_to, offer_to_all};
 pub use udp::{UdpInlet, UdpLink, UdpOutlet};
 pub use waits::{WAIT, wait};
 

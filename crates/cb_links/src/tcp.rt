@@ -233,7 +233,11 @@ impl<S: Write + Drop> Outlet for TcpOutlet<S> {
 }
 
 /// Offers the frame to one member; there is no connection for a number that is no other member's.
-fn offer_to<S: Write + Drop>(to: &mut [Option<Going<S>>], member: u32, frame: &Bytes) -> Offered {
+pub fn offer_to<S: Write + Drop>(
+    to: &mut [Option<Going<S>>],
+    member: u32,
+    frame: &Bytes,
+) -> Offered {
     match to.get_mut(member as usize) {
         Some(Some(going)) => Offered::of(going.send(frame.as_slice())),
         _ => Offered::failed(),
@@ -241,7 +245,7 @@ fn offer_to<S: Write + Drop>(to: &mut [Option<Going<S>>], member: u32, frame: &B
 }
 
 /// Offers the frame to all others.
-fn offer_to_all<S: Write + Drop>(to: &mut [Option<Going<S>>], frame: &Bytes) -> Offered {
+pub fn offer_to_all<S: Write + Drop>(to: &mut [Option<Going<S>>], frame: &Bytes) -> Offered {
     let mut offered = Offered::taken();
     for going in to {
         if let Some(going) = going {

@@ -29,10 +29,11 @@ abbrev pub others_from : ℕ → ℕ → List SocketAddr → List (Option Socket
 others_from me n [] = []
 others_from me n (a ∷ rest) = (if n == me then None else Some a) ∷ others_from me (n + 1) rest
 
--- a member knows its own address and those of the others
-pub record AreOf (me : ℕ) (addresses : List SocketAddr) (peers : Peers) : Type 0 where
-  pub own : slice_index_or addresses me peers.own ≡ peers.own
-  pub others : peers.others.items ≡ others_from me 0 addresses
+-- a member knows its own number and address, and those of the others
+pub record AreOf (number : ℕ) (addresses : List SocketAddr) (peers : Peers) : Type 0 where
+  pub me : peers.me ≡ number
+  pub own : slice_index_or addresses number peers.own ≡ peers.own
+  pub others : peers.others.items ≡ others_from number 0 addresses
 
 -- why there are none
 abbrev pub NotPlaced : ℕ → ℕ → List SocketAddr → MakeFault → Type 0

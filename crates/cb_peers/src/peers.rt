@@ -10,6 +10,8 @@ use std::net::SocketAddr;
 /// The addresses of a group's members, as one of them uses them.
 #[derive(Drop)]
 pub struct Peers {
+    /// The member's own number.
+    me: u32,
     /// The address that the member itself has.
     own: SocketAddr,
     /// Those of the others, in the order of their numbers, with none at the member's own.
@@ -42,7 +44,14 @@ impl Peers {
         }
         let own = addresses[me as usize];
         let others = others_of(alloc, me, addresses)?;
-        Ok(Peers { own, others })
+        Ok(Peers { me, own, others })
+    }
+
+    /// The member's own number.
+    pub fn me(&self) -> u32
+        ensures { result ≡ self.now.me }
+    {
+        self.me
     }
 
     /// The address that the member itself has.

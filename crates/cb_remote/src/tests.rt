@@ -1,0 +1,6 @@
+//! Links between processes, whose ends are in one.
+
+ghost use Rattle.std.specs.Prelude.{◌≡◌};
+
+mod places;
+mod udp;
