@@ -233,7 +233,7 @@ impl<S: Write + Drop> Outlet for TcpOutlet<S> {
 }
 
 /// Offers the frame to one member; there is no connection for a number that is no other member's.
-pub fn offer_to<S: Write + Drop>(
+fn offer_to<S: Write + Drop>(
     to: &mut [Option<Going<S>>],
     member: u32,
     frame: &Bytes,
@@ -245,7 +245,7 @@ pub fn offer_to<S: Write + Drop>(
 }
 
 /// Offers the frame to all others.
-pub fn offer_to_all<S: Write + Drop>(to: &mut [Option<Going<S>>], frame: &Bytes) -> Offered {
+fn offer_to_all<S: Write + Drop>(to: &mut [Option<Going<S>>], frame: &Bytes) -> Offered {
     let mut offered = Offered::taken();
     for going in to {
         if let Some(going) = going {

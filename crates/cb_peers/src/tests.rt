@@ -2,5 +2,6 @@
 
 ghost use Rattle.std.specs.Prelude.{◌≡◌};
 
+mod attempts;
 mod hellos;
 mod places;

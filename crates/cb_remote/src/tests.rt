@@ -2,5 +2,7 @@
 
 ghost use Rattle.std.specs.Prelude.{◌≡◌};
 
+mod greeter;
 mod places;
+mod tcp;
 mod udp;

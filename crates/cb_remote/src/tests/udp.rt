@@ -144,3 +144,16 @@ fn an_inlet_sleeps_for_as_long_as_it_may(rt: HostRuntime) {
     assert!(&rt; 99 <= slept, "the whole time");
     drop(outlet);
 }
+
+/// Another thread may have it.
+fn can_be_handed_over<T: Send + Drop>(part: T) {
+    drop(part);
+}
+
+#[test]
+fn the_ends_can_be_in_two_threads(rt: HostRuntime) {
+    let addresses = free(&rt, rt.alloc(), 2);
+    let (inlet, outlet) = link(&rt, rt.alloc(), 0, &addresses);
+    can_be_handed_over(inlet);
+    can_be_handed_over(outlet);
+}
