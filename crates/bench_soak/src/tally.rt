@@ -5,6 +5,9 @@ use cb_member::Entry;
 use cb_threads::{Gathering, MemberReport};
 use std::fmt;
 
+/// So many names of what was delivered lie in the entry itself; more have memory of their own.
+const NAMES_IN_ENTRY: usize = 2;
+
 /// What is counted of all members. The counts stay at their greatest value.
 #[derive(Clone, Copy, Drop)]
 pub struct Tally {
@@ -14,10 +17,14 @@ pub struct Tally {
     /// The messages that talkers were shown.
     shown: u64,
     entries: u64,
-    /// The bytes of the frames that members made, in their histories.
+    /// The frames that members made, in their histories.
+    frames: u64,
+    /// Their bytes.
     made: u64,
-    /// The bytes of those that came.
+    /// The bytes of the frames that came.
     came: u64,
+    /// The names of what was delivered that lie outside of their entries.
+    names: u64,
     refused: u64,
     lost: u64,
     /// How often a link or a pace failed.
@@ -36,8 +43,10 @@ impl Tally {
             deliveries: 0,
             shown: 0,
             entries: 0,
+            frames: 0,
             made: 0,
             came: 0,
+            names: 0,
             refused: 0,
             lost: 0,
             failures: 0,
@@ -75,13 +84,21 @@ impl Tally {
 
     fn add_entry(&mut self, entry: &Entry) {
         match entry {
-            Entry::Cast { frame } => self.made = self.made.saturating_add(frame.len() as u64),
-            Entry::Arrive {
-                frame,
-                delivered: _,
-            } => self.came = self.came.saturating_add(frame.len() as u64),
-            Entry::Tick { status } => self.made = self.made.saturating_add(status.len() as u64),
+            Entry::Cast { frame } => self.add_made(frame.len()),
+            Entry::Arrive { frame, delivered } => {
+                self.came = self.came.saturating_add(frame.len() as u64);
+                if delivered.len() > NAMES_IN_ENTRY {
+                    self.names = self.names.saturating_add(delivered.len() as u64);
+                }
+            }
+            Entry::Tick { status } => self.add_made(status.len()),
         }
+    }
+
+    /// And a frame of so many bytes that a member made.
+    fn add_made(&mut self, bytes: usize) {
+        self.frames = self.frames.saturating_add(1);
+        self.made = self.made.saturating_add(bytes as u64);
     }
 }
 
@@ -89,7 +106,8 @@ impl fmt::Display for Tally {
     fn fmt<W: fmt::Write>(&self, f: &mut fmt::Formatter<W>) -> fmt::Result {
         write!(f, "casts {} deliveries {}", self.casts, self.deliveries)?;
         write!(f, " shown {} entries {}", self.shown, self.entries)?;
-        write!(f, " made {} came {}", self.made, self.came)?;
+        write!(f, " frames {} made {}", self.frames, self.made)?;
+        write!(f, " came {} names {}", self.came, self.names)?;
         write!(f, " refused {} lost {}", self.refused, self.lost)?;
         write!(
             f,
