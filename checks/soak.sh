@@ -3,11 +3,11 @@
 # are lost, five come once more and ten are held back by up to 100 milliseconds, and 1 to 50 milliseconds lie between two ticks. All is drawn by a
 # fixed generator; what the threads make of it is not fixed. Messages go in bursts.
 #   checks/soak.sh [MINUTES]
-# In an hour, which is what it takes where no minutes are said, it is to make 10,000,000 deliveries, in runs of at most 500,000; in fewer minutes
-# as many less. Behind each run all must be cast and delivered, the audit of the histories must say yes, and no thread and no descriptor may be
-# left. The most memory that the process had must be what docs/GUIDE.md says of its entries and messages, to 20 % up or down; memory are the
-# anonymous pages. Behind each third run comes one whose histories get full: it ends when its turns are used up, its talkers were shown nothing
-# that is not in a history, and its audit says yes.
+# It goes on for so many minutes, 60 where none are said, and at least 10,000,000 deliveries must be made in an hour, in runs of at most 500,000;
+# in fewer minutes as many less. Behind each run all must be cast and delivered, the audit of the histories must say yes, and no thread and no
+# descriptor may be left. The most memory that the process had until the audit must be what docs/GUIDE.md says of a group in threads, to 10 % up
+# or down; memory are the anonymous pages. Behind each third run comes one whose histories get full: it ends when its turns are used up, its
+# talkers were shown nothing that is not in a history, and its audit says yes. At the end it says what each kind of group did in all.
 # It wants python3 and the proved program: `rt run` in crates/bench_soak leaves it in crates/bench_soak/out. SOAKED=FILE takes another build.
 set -eu
 top=$(cd "$(dirname "$0")/.." && pwd)
@@ -18,7 +18,8 @@ import os, re, select, subprocess, sys, time
 
 program, minutes = sys.argv[1], float(sys.argv[2])
 aim = int(10_000_000 * minutes / 60)
-most = 500_000
+# deliveries of a run
+fewest, most = 60_000, 500_000
 kinds = [(size, link) for size in (3, 8) for link in ("channel", "udp", "tcp")]
 window, payload, burst = 256, 32, 8
 longest_history, every_turn = 16_777_216, 4_294_967_295
@@ -26,8 +27,10 @@ longest_history, every_turn = 16_777_216, 4_294_967_295
 few_entries, few_turns = 200, 1_000
 # a run that takes longer hangs
 longest_run = 1_200
-# bytes of a message among the events of a member, of an entry, and of its receipt
-an_event, an_entry, a_receipt = 104, 80, 88
+# what docs/GUIDE.md says under "Memory", in bytes: a message among the events, an entry, its receipt, what a frame takes beside its bytes,
+# a name of what was delivered, and a place in a window and in a list of casts that wait for others
+an_event, an_entry, a_receipt, around_a_frame, a_name, a_place, a_waiting = 104, 80, 88, 72, 8, 280, 48
+leeway = 0.1
 has_failed = False
 
 
@@ -54,7 +57,7 @@ def left_by(pid):
     return threads, descriptors
 
 
-def soak(size, link, casts, seed, history_max, turns):
+def soak(size, link, seed, casts, window=window, history_max=longest_history, turns=every_turn):
     """What the program counted, with its peak memory, what it left and whether the audit says yes; nothing where it failed."""
     words = [str(word) for word in (size, window, payload, casts, link, burst, seed, history_max, turns, "all")]
     began = time.monotonic()
@@ -79,14 +82,20 @@ def soak(size, link, casts, seed, history_max, turns):
     return counts | {"peak": peak, "left": left, "yes": said.startswith(b"audit yes"), "seconds": ran}
 
 
-def due_memory(link, counts):
-    """The bytes of events, entries, receipts and frames. Over channels members share the bytes of a frame."""
-    frames = counts["made"] + (0 if link == "channel" else counts["came"])
+def due_memory(size, link, counts):
+    """The bytes that a group in threads takes until it ends, beside those with which it began."""
     events = an_event * (counts["casts"] + counts["deliveries"])
-    return events + (an_entry + a_receipt) * counts["entries"] + frames
+    entries = (an_entry + a_receipt) * counts["entries"] + 2 * a_name * counts["names"]
+    frames = around_a_frame * counts["frames"] + counts["made"]
+    if link != "channel":
+        # over channels members share the bytes of a frame, else each has what came to it
+        frames += around_a_frame * (counts["entries"] - counts["frames"]) + counts["came"]
+    of_bursts = payload * counts["casts"]
+    windows = size * window * (size * a_place + a_waiting) + size * (size - 1) * window * a_waiting
+    return events + entries + frames + of_bursts + windows
 
 
-def judge(counts, size):
+def judge(counts):
     """What each run must have."""
     if not counts["yes"]:
         fails("the audit says no")
@@ -102,47 +111,63 @@ def say(size, link, counts, rest):
 
 
 def soak_whole(size, link, deliveries, seed):
-    """A run that ends when all is delivered; how much was."""
+    """A run that ends when all is delivered: what was counted, with the memory that is due."""
     casts = max(deliveries // (size * (size - 1)), 1)
-    begun = soak(size, link, 1, seed, longest_history, every_turn)
-    counts = soak(size, link, casts, seed, longest_history, every_turn)
+    begun = soak(size, link, seed, 1, window=burst)
+    counts = soak(size, link, seed, casts)
     if not begun or not counts:
-        return 0
-    due = begun["peak"] + due_memory(link, counts)
+        return None
+    due = begun["peak"] + due_memory(size, link, counts)
     say(size, link, counts, f"{due / 2**20:7.1f}  all ")
-    judge(counts, size)
+    judge(counts)
     if (counts["casts"], counts["deliveries"]) != (size * casts, size * (size - 1) * casts):
         fails(f"cast {counts['casts']}, delivered {counts['deliveries']}, of {casts} a member")
     if counts["full"]:
         fails("a history is full")
-    if not 0.8 * due <= counts["peak"] <= 1.2 * due:
+    if not (1 - leeway) * due <= counts["peak"] <= (1 + leeway) * due:
         fails(f"{counts['peak']} bytes of memory, where {due} are due")
-    return counts["deliveries"]
+    return counts | {"due": due}
 
 
 def soak_full(size, link, seed):
     """A run whose histories get full."""
-    counts = soak(size, link, 1_000_000, seed, few_entries, few_turns)
+    counts = soak(size, link, seed, 1_000_000, history_max=few_entries, turns=few_turns)
     if not counts:
-        return 0
+        return
     say(size, link, counts, f"         full {counts['full']}")
     # an inlet whose turns are used up is closed, and over channels what is sent there fails
-    judge(counts | {"failures": 0}, size)
+    judge(counts | {"failures": 0})
     if counts["full"] == 0 or counts["refused"] == 0:
         fails(f"{counts['full']} histories are full, {counts['refused']} arrivals were refused")
     if counts["entries"] > size * few_entries or counts["shown"] > counts["casts"] + counts["deliveries"]:
         fails(f"{counts['entries']} entries, and {counts['shown']} messages were shown")
-    return counts["deliveries"]
+
+
+def say_all(size, link, runs):
+    """What the runs of a kind did, with the least and the greatest part of the memory that was due."""
+    deliveries, entries, refused = (sum(run[name] for run in runs) for name in ("deliveries", "entries", "refused"))
+    parts = [run["peak"] / run["due"] for run in runs]
+    last = f"{runs[-1]['peak'] / 2**20:.1f} MiB of {runs[-1]['due'] / 2**20:.1f}"
+    seconds = sum(run["seconds"] for run in runs)
+    print(
+        f"{size} over {link}: {len(runs)} runs, {deliveries} deliveries, {entries} entries, {refused} refused, "
+        f"memory {min(parts):.3f} to {max(parts):.3f} of what is due, in the last run {last}, {seconds:.0f} seconds"
+    )
 
 
 print("size  link     deliveries   entries  refused  memory      due       seconds")
-began, total, runs = time.monotonic(), 0, 0
-while total < aim and time.monotonic() - began < 60 * minutes:
+began, runs, whole = time.monotonic(), 0, {}
+while time.monotonic() - began < 60 * minutes:
     size, link = kinds[runs % len(kinds)]
-    total += soak_whole(size, link, min(most, max(aim // 12, 1)), runs + 1)
+    counts = soak_whole(size, link, min(most, max(aim // 12, fewest)), runs + 1)
+    if counts:
+        whole.setdefault((size, link), []).append(counts)
     runs += 1
     if runs % 3 == 0:
         soak_full(*kinds[runs // 3 % len(kinds)], runs + 1_000)
+for (size, link), done in whole.items():
+    say_all(size, link, done)
+total = sum(counts["deliveries"] for done in whole.values() for counts in done)
 print(f"{total} deliveries in {runs} runs and {(time.monotonic() - began) / 60:.1f} minutes")
 if total < aim:
     fails(f"{aim} were to be made")
