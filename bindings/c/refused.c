@@ -1,6 +1,7 @@
 /*
- * Each allocation of a run refused in turn. The call that asked for it answers NO_MEMORY or does without it; after NO_MEMORY the
- * member is as it was, and the same call then succeeds. Each run ends as the one that had all its memory, and frees what it took.
+ * Each allocation of a run refused in turn: it alone, and with it all that its call asks for behind it. The call answers NO_MEMORY or
+ * does without; after NO_MEMORY the member is as it was, and the same call then succeeds. Each run ends as the one that had all its
+ * memory, and frees what it took.
  * Linked with -Wl,--wrap=malloc,--wrap=realloc,--wrap=free, so that the library's calls come here.
  */
 #include <stdio.h>
@@ -18,15 +19,29 @@ void __wrap_free(void *block);
 
 enum { ALL = -1 };
 
-static long granted = ALL; /* how many allocations more; then one is refused, and then all are granted */
-static long blocks;        /* how many are not freed */
-static bool is_refused;    /* one was */
+static long granted = ALL;   /* how many allocations more, before one is refused */
+static bool are_all_refused; /* and those behind it, until the call has answered */
+static long blocks;          /* how many are not freed */
+static bool is_refused;      /* one was */
 
 static bool refuse(void)
 {
-    if (granted == 0)
-        is_refused = true;
-    return granted != ALL && granted-- == 0;
+    if (granted == ALL)
+        return false;
+    if (granted > 0) {
+        granted--;
+        return false;
+    }
+    is_refused = true;
+    granted = are_all_refused ? 0 : ALL;
+    return true;
+}
+
+/* The call has answered: if it was refused an allocation, all are granted from now on. */
+static void grant_all(void)
+{
+    if (is_refused)
+        granted = ALL;
 }
 
 void *__wrap_malloc(size_t length)
@@ -203,6 +218,7 @@ static uint64_t digest_of(jolunza_handle *handle)
     do {                                               \
         uint64_t before = digest_of(handle);           \
         uint32_t code = (call);                        \
+        grant_all();                                   \
         if (code == JOLUNZA_NO_MEMORY) {               \
             count_refusal(kind);                       \
             MUST(digest_of(handle) == before);         \
@@ -303,7 +319,7 @@ static void help(jolunza_handle *of_0, jolunza_handle *of_1, jolunza_handle *of_
     receive_all("jolunza_receive", of_0, sent, frames_of(of_2, sent));
 }
 
-/* A run of members with this limit in which this many allocations are granted before one is refused: a digest of how both end. */
+/* A run of members with this limit in which this many allocations are granted before the refusal: a digest of how they end. */
 static uint64_t run(size_t limit, long before_the_refusal)
 {
     jolunza_handle of_0 = JOLUNZA_CLOSED_HANDLE, of_1 = JOLUNZA_CLOSED_HANDLE, of_2 = JOLUNZA_CLOSED_HANDLE;
@@ -341,24 +357,28 @@ static long tell_refusals(void)
     return all;
 }
 
-/* Each allocation of a run is refused, one in each run; the run ends as one in which none is. */
-static void refuse_each(size_t limit)
+/* Each allocation of a run is refused, one in each run, alone or with those behind it; the run ends as one in which none is. */
+static void refuse_each(size_t limit, bool all)
 {
     uint64_t whole = run(limit, ALL);
     long allocations = 0, calls;
 
+    are_all_refused = all;
     do {
         MUST(run(limit, allocations) == whole);
         allocations += is_refused;
     } while (is_refused);
-    printf("%ld allocations, each refused in turn, %s a history\n", allocations, limit > 0 ? "with" : "without");
+    printf("%ld allocations, each refused in turn%s, %s a history\n", allocations, all ? " with those behind it" : "",
+           limit > 0 ? "with" : "without");
     calls = tell_refusals();
     MUST(allocations > CASTS && calls > CASTS);
 }
 
 int main(void)
 {
-    refuse_each(LIMIT);
-    refuse_each(0); /* without a history */
+    for (int all = 0; all <= 1; all++) {
+        refuse_each(LIMIT, all);
+        refuse_each(0, all); /* without a history */
+    }
     return 0;
 }
