@@ -390,7 +390,7 @@ void checked_all(struct checked *checked)
 static void arm(struct checked *checked)
 {
     if (checked->refuse > 0)
-        refuse_after(checked->refuse - 1);
+        refuse_after((checked->refuse - 1) / 2, checked->refuse % 2 == 0);
     checked->refuse = 0;
 }
 
@@ -685,7 +685,7 @@ static void missing_without_memory(struct checked *checked, uint32_t member)
 
     UNTOUCH(filled.ranges);
     UNTOUCH(filled.count);
-    refuse_after(0);
+    refuse_after(0, true);
     code = reached(CALL_MISSING, jolunza_missing(&checked->handle, member, filled.ranges, 256, &filled.count));
     MUST(grant_all() || code != JOLUNZA_NO_MEMORY);
     MUST(code == JOLUNZA_DONE || (code == JOLUNZA_NO_MEMORY && IS_UNTOUCHED(filled.ranges) && IS_UNTOUCHED(filled.count)));

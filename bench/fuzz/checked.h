@@ -18,7 +18,7 @@ struct checked {
     struct buffer journal;                           /* all entries: a length, a kind and the frame of each */
     bool skips_frames, skips_log;                    /* after a restart those are of the last entry, not of the last call */
     uint32_t turn;                                   /* whose readings are compared first */
-    unsigned refuse;                                 /* the allocation of the next call that is refused, from 1; 0 is none */
+    unsigned refuse; /* of the next call: 1 its first allocation, 2 all of them, 3 its second, 4 all from that on; 0 is none */
 };
 
 /* Opens it; another code than DONE leaves it closed. */

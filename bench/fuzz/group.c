@@ -581,7 +581,7 @@ static void step(struct input *input)
         step_help(member, how % group.size);
         break;
     case 13:
-        group.members[member].refuse = 1 + how % 24;
+        group.members[member].refuse = 1 + how % 48;
         break;
     case 14:
         checked_restart(&group.members[member]);

@@ -190,7 +190,7 @@ static void call_seldom(struct input *input)
         parts.count = 0;
         break;
     default:
-        member.refuse = 1 + take_byte(input) % 16;
+        member.refuse = 1 + take_byte(input) % 32;
     }
 }
 
@@ -237,7 +237,7 @@ int LLVMFuzzerTestOneInput(const uint8_t *data, size_t size)
     pool.count = 0;
     parts.count = 0;
     if (settings.size > 3 && take_byte(&input) % 8 == 0)
-        member.refuse = 1 + take_byte(&input) % 16;
+        member.refuse = 1 + take_byte(&input) % 32;
     if (checked_open(&member, settings) == JOLUNZA_DONE) {
         for (int calls = 0; calls < MOST_CALLS && input.left > 0; calls++)
             call(&input);

@@ -12,14 +12,18 @@ void *__real_realloc(void *block, size_t length);
 void *__wrap_malloc(size_t length);
 void *__wrap_realloc(void *block, size_t length);
 
-static bool is_armed, is_refused;
+static bool is_armed, is_refused, are_all_refused;
 static unsigned left;
 
 static bool refuse(void)
 {
-    if (!is_armed || left-- > 0)
+    if (!is_armed)
         return false;
-    is_armed = false;
+    if (left > 0) {
+        left--;
+        return false;
+    }
+    is_armed = are_all_refused;
     is_refused = true;
     return true;
 }
@@ -34,10 +38,11 @@ void *__wrap_realloc(void *block, size_t length)
     return refuse() ? NULL : __real_realloc(block, length);
 }
 
-void refuse_after(unsigned granted)
+void refuse_after(unsigned granted, bool all)
 {
     is_armed = true;
     is_refused = false;
+    are_all_refused = all;
     left = granted;
 }
 

@@ -16,8 +16,8 @@ enum guard { GUARD_BYTES, GUARD_LENGTHS, GUARDS };
 /* A copy of the memory, with nothing readable behind. There is one of each: the next call overwrites it. */
 const void *guarded(enum guard guard, const void *memory, size_t length);
 
-/* From now on an allocation is refused after so many that are granted. */
-void refuse_after(unsigned granted);
+/* From now on an allocation is refused after so many that are granted, and all behind it where that is said. */
+void refuse_after(unsigned granted, bool all);
 
 /* All are granted from now on; answers whether one was refused. */
 bool grant_all(void);
