@@ -3,6 +3,7 @@
 # growth of one number in all runs of a program that it builds once: a run on an input of n bytes first takes memory n
 # times, and so has another growth of its calls refused.
 # STEPS=20000000 has each run made by the interpreter too, which takes longer; else only one in which none is refused.
+# EDIT=FILE tries a mutant of the crate whose folder it lies in, as checks/wrong-bodies/cb_world/NAME.edit: a run then prints `wrong`.
 top=$(cd "$(dirname "$0")/.." && pwd)
 work=$(mktemp -d)
 trap 'rm -rf "$work"' EXIT
@@ -11,6 +12,9 @@ trap 'rm -rf "$work"' EXIT
 copy_whole() {
     mkdir -p "$work/whole"
     (cd "$top" && tar -c --exclude=out --exclude=.git --exclude='inc-*' .) | tar -x -C "$work/whole"
+    # Else a list that is refused room for three times its length asks for less, and the refusal of one growth ends no call there.
+    perl "$top/checks/apply_edit.pl" "$work/whole/crates/cb_times" "$top/checks/refused/asks_for_room_once.edit"
+    [ -z "${EDIT:-}" ] || perl "$top/checks/apply_edit.pl" "$work/whole/crates/$(basename "$(dirname "$EDIT")")" "$EDIT"
 }
 
 # add_program CRATE FOLDER: the program in checks/FOLDER becomes that of a crate of the copy, with those of its

@@ -11,38 +11,6 @@ top=$(cd "$(dirname "$0")/.." && pwd)
 work=$(mktemp -d)
 trap 'rm -rf "$work"' EXIT
 
-# puts the edit $2 into the copy of the crate in the folder $1
-apply() {
-    perl -e '
-        my ($crate, $edit) = @ARGV;
-        my (%text, $file, $old);
-        open my $in, "<", $edit or die "$edit: $!\n";
-        while (my $line = <$in>) {
-            chomp $line;
-            if ($line =~ /^file: (.*)$/) {
-                $file = $1;
-                next if exists $text{$file};
-                open my $from, "<", "$crate/$file" or die "$file: $!\n";
-                local $/;
-                $text{$file} = <$from>;
-            } elsif ($line =~ /^old: (.*)$/) {
-                $old = $1;
-            } elsif ($line =~ /^new: ?(.*)$/) {
-                my $new = $1;
-                my $count = () = $text{$file} =~ /\Q$old\E/g;
-                die "\"$old\" stands $count times in $file\n" if $count != 1;
-                $text{$file} =~ s/\Q$old\E/$new/;
-            } elsif ($line ne "") {
-                die "no line of an edit: $line\n";
-            }
-        }
-        for (keys %text) {
-            open my $to, ">", "$crate/$_" or die "$_: $!\n";
-            print $to $text{$_};
-        }
-    ' "$1" "$2"
-}
-
 say() {
     echo "$*"
     echo "$*" >> "$work/results"
@@ -91,7 +59,7 @@ try() {
     name=$(basename "$edit" .edit)
     copy=$(mktemp -d "$work/copy.XXXXXX")
     cp -r "$work/whole/." "$copy"
-    if ! shown=$(apply "$copy/crates/$crate" "$edit" 2>&1); then
+    if ! shown=$(perl "$top/checks/apply_edit.pl" "$copy/crates/$crate" "$edit" 2>&1); then
         say "$crate $name does-not-fit: $shown"
         rm -rf "$copy"
         return 1
