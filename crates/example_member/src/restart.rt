@@ -2,8 +2,9 @@
 
 use crate::{HISTORY_LIMIT, show};
 use bytes::Bytes;
-use cb_frames::{Frame, decode};
-use cb_member::{Arrival, Entry, Group, Member};
+use cb_journal::{JournalWriter, read_journal};
+use cb_member::{Arrival, Group, Member};
+use cb_replay::resume;
 use std::alloc::Global;
 
 /// Member 0 begins again, once without its history and once with it, and casts each time. The second takes its place.
@@ -13,7 +14,9 @@ pub fn restart(rt: &HostRuntime, members: &mut [Member]) -> anyhow::Result<()> {
     };
     let group = old.seat().group();
     without_history(rt, group, others)?;
-    *old = replay(rt.alloc(), group, 0, old.history())?;
+    let journal = journal_of(rt.alloc(), old)?;
+    *old = back(rt.alloc(), &journal)?;
+    drop(journal);
     cast_to(rt, old, others, "back again")
 }
 
@@ -49,41 +52,18 @@ fn take(rt: &HostRuntime, member: &mut Member, frame: &Bytes) -> anyhow::Result<
 }
 
 // GUIDE: begin
-/// The member whose history has these entries: it makes their calls again.
-fn replay(alloc: Global, group: Group, me: u32, entries: &[Entry]) -> anyhow::Result<Member> {
-    let mut member = Member::new(alloc, group, me, HISTORY_LIMIT)?;
-    for entry in entries {
-        call_again(alloc, &mut member, entry)?;
+/// The journal of all that the member did, as it is written entry by entry.
+fn journal_of(alloc: Global, member: &Member) -> anyhow::Result<Vec<u8>> {
+    let mut journal = JournalWriter::begin(alloc, Vec::new(alloc), member.seat())?;
+    for entry in member.history() {
+        journal.append(entry)?;
     }
-    Ok(member)
+    Ok(journal.into_device())
 }
 
-fn call_again(alloc: Global, member: &mut Member, entry: &Entry) -> anyhow::Result<()> {
-    match entry {
-        Entry::Cast { frame } => cast_again(alloc, member, frame)?,
-        Entry::Arrive { frame, .. } => drop(member.arrive(frame)?),
-        Entry::Tick { .. } => drop(member.tick()?),
-    }
-    Ok(())
-}
-
-/// A burst of one payload is a burst too: the kind of the frame tells which call made it.
-fn cast_again(alloc: Global, member: &mut Member, frame: &Bytes) -> anyhow::Result<()> {
-    let cast = decode(alloc, frame)?;
-    match &cast {
-        Frame::Cast(cast) => drop(member.cast(&cast.payload)?),
-        Frame::Burst(burst) => burst_again(alloc, member, &burst.payloads)?,
-        Frame::Status(_) | Frame::Request(_) | Frame::Help(_) => {}
-    }
-    Ok(())
-}
-
-fn burst_again(alloc: Global, member: &mut Member, payloads: &[Bytes]) -> anyhow::Result<()> {
-    let mut slices = Vec::with_capacity(alloc, payloads.len())?;
-    for payload in payloads {
-        slices.push(payload.as_slice())?;
-    }
-    drop(member.cast_burst(&slices)?);
-    Ok(())
+/// The member whose journal these bytes are, whatever a crash left of the last line.
+fn back(alloc: Global, bytes: &[u8]) -> anyhow::Result<Member> {
+    let journal = read_journal(alloc, bytes)?;
+    Ok(resume(alloc, journal.history, HISTORY_LIMIT)?)
 }
 // GUIDE: end
