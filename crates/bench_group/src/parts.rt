@@ -4,11 +4,10 @@ ghost use Rattle.std.specs.Prelude.{◌≡◌};
 
 use crate::plan::Plan;
 use cb_member::{Event, NoMemory};
-use cb_threads::{Inlet, LinkFault, Pace, PaceFault, Received, Talk, Talker};
+use cb_threads::{Inlet, LinkFault, Received, Talk, Talker};
 use std::alloc::Global;
 use std::sync::Wait;
-use std::thread::sleep;
-use std::time::{Clock, Duration};
+use std::time::Clock;
 
 /// The first bytes of cast frames, of one message and of several.
 const CASTS: [u8; 2] = [0x11, 0x21];
@@ -47,23 +46,6 @@ fn is_cast(received: &Result<Received, LinkFault>) -> bool {
             .first()
             .is_some_and(|kind| CASTS.contains(kind)),
         _ => false,
-    }
-}
-
-/// A millisecond between two ticks.
-#[derive(Drop)]
-pub struct Millisecond;
-
-impl Pace for Millisecond {
-    ghost failed = { λ pace. 0 };
-
-    fn failures(&self) -> u64 {
-        0
-    }
-
-    fn wait<R: Wait + Clock>(&mut self, rt: &R) -> Result<(), PaceFault> {
-        sleep(rt, Duration::from_millis(1));
-        Ok(())
     }
 }
 

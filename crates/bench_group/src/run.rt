@@ -1,18 +1,18 @@
 //! The group, run.
 
 use crate::fault::Fault;
-use crate::parts::{Caster, Counting, Millisecond};
+use crate::parts::{Caster, Counting};
 use crate::plan::{LinkKind, Plan};
 use cb_member::LONGEST_HISTORY;
 use cb_threads::{
-    ChannelLink, Gathering, GroupReport, Inlet, Limits, MemberReport, Outlet, TcpLink, UdpLink,
-    run_group,
+    ChannelLink, Every, Gathering, GroupReport, Inlet, Limits, MemberReport, Outlet, TcpLink,
+    UdpLink, run_group,
 };
 use std::alloc::Global;
 use std::net::{Net, TcpListener, TcpStream};
 use std::sync::Wait;
 use std::thread::Threads;
-use std::time::Clock;
+use std::time::{Clock, Duration};
 
 /// The outcome of a run.
 #[derive(Clone, Copy)]
@@ -55,7 +55,7 @@ fn run_over<I: Inlet + Send + Drop, O: Outlet + Send + Drop, R: Threads + Wait +
     let mut paces = Vec::new(alloc);
     let mut talkers = Vec::new(alloc);
     for _member in 0..plan.group.size() {
-        paces.push(Millisecond)?;
+        paces.push(Every(Duration::from_millis(1)))?;
         talkers.push(Gathering::new(Caster::new(alloc, plan), plan.burst))?;
     }
     let limits = Limits { turns: u64::MAX };
@@ -85,9 +85,7 @@ fn counting<I: Drop, O: Drop>(
     Ok(all)
 }
 
-fn counted<I: Drop, O: Drop>(
-    ran: GroupReport<Counting<I>, O, Millisecond, Gathering<Caster>>,
-) -> Ran {
+fn counted<I: Drop, O: Drop>(ran: GroupReport<Counting<I>, O, Every, Gathering<Caster>>) -> Ran {
     let mut sum = Ran {
         deliveries: 0,
         arrivals: 0,
@@ -99,7 +97,7 @@ fn counted<I: Drop, O: Drop>(
     sum
 }
 
-fn arrivals<I, O>(report: &MemberReport<Counting<I>, O, Millisecond, Gathering<Caster>>) -> u64 {
+fn arrivals<I, O>(report: &MemberReport<Counting<I>, O, Every, Gathering<Caster>>) -> u64 {
     match &report.inlet {
         Some(inlet) => inlet.casts,
         None => 0,

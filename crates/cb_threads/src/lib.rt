@@ -30,7 +30,7 @@ pub use gathering::Gathering;
 pub use group::{GroupFault, run_group};
 pub use limits::{Limits, Stop};
 pub use member::run_member;
-pub use pace::{Pace, PaceFault};
+pub use pace::{Every, Pace, PaceFault};
 pub use report::{GroupReport, MemberReport, WorkerFault};
 pub use talker::{Talk, Talker};
 

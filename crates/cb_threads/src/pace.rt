@@ -6,7 +6,8 @@ ghost use Rattle.cb_links.specs.Counts.{HasCounted};
 use std::error::Error;
 use std::fmt;
 use std::sync::Wait;
-use std::time::Clock;
+use std::thread::sleep;
+use std::time::{Clock, Duration};
 
 /// The pace did not wait as it should.
 #[derive(Clone, Copy, Debug, PartialEq, Eq)]
@@ -34,4 +35,21 @@ pub trait Pace {
     fn wait<R: Wait + Clock>(&mut self, rt: &R) -> Result<(), PaceFault>
         ensures rises { failed self.old ≤ failed self.new }
         ensures fault { OnErr result (HasCounted (failed self.old) (failed self.new)) };
+}
+
+/// The pace that lets so much time pass between two ticks. It never fails.
+#[derive(Clone, Copy, Debug, PartialEq, Eq)]
+pub struct Every(pub Duration);
+
+impl Pace for Every {
+    ghost failed = { λ _. 0 };
+
+    fn failures(&self) -> u64 {
+        0
+    }
+
+    fn wait<R: Wait + Clock>(&mut self, rt: &R) -> Result<(), PaceFault> {
+        sleep(rt, self.0);
+        Ok(())
+    }
 }

@@ -33,7 +33,7 @@ use Rattle.confer_run.specs.declared.fault.RunFault.TheVariants as faults
 use Rattle.confer_run.specs.declared.fault.ThreadFault.{ThreadFault}
 use Rattle.confer_run.specs.declared.fault.ThreadFault.TheVariants as threads
 use Rattle.confer_run.specs.declared.participant.Participant.{Participant}
-use Rattle.confer_run.specs.declared.running.Millisecond.{Millisecond}
+use Rattle.cb_threads.specs.declared.pace.Every.{Every}
 use Rattle.confer_run.specs.declared.setting.LinkKind.{LinkKind}
 use Rattle.confer_run.specs.declared.setting.LinkKind.TheVariants as links
 use Rattle.confer_run.specs.declared.setting.RunSetting.{RunSetting}
@@ -46,7 +46,7 @@ group_of setting = record { number = 7; size = setting.size; window = setting.wi
 
 -- what became of a member of a conference, over a link with these ends
 abbrev pub Report : Type 0 → Type 0 → Type 0
-Report I O = MemberReport I O Millisecond Participant
+Report I O = MemberReport I O Every Participant
 
 -- ---- the members' lines
 

@@ -3,11 +3,11 @@
 ghost use Rattle.std.specs.Prelude.{◌≡◌, length};
 
 use crate::participant::Participant;
-use crate::running::{Millisecond, participants};
+use crate::running::{pace, participants};
 use crate::setting::{LinkKind, RunSetting};
 use cb_member::Group;
 use cb_threads::{
-    ChannelInlet, ChannelLink, ChannelOutlet, FailInlet, FailOutlet, GroupReport, Limits,
+    ChannelInlet, ChannelLink, ChannelOutlet, Every, FailInlet, FailOutlet, GroupReport, Limits,
     MemberReport, run_group,
 };
 use cb_trace::audit;
@@ -37,19 +37,9 @@ struct Plan {
 
 type Link = (FailInlet<ChannelInlet>, FailOutlet<ChannelOutlet>);
 
-type Ran = GroupReport<
-    FailInlet<ChannelInlet>,
-    FailOutlet<ChannelOutlet>,
-    Millisecond,
-    Participant,
->;
+type Ran = GroupReport<FailInlet<ChannelInlet>, FailOutlet<ChannelOutlet>, Every, Participant>;
 
-type Report = MemberReport<
-    FailInlet<ChannelInlet>,
-    FailOutlet<ChannelOutlet>,
-    Millisecond,
-    Participant,
->;
+type Report = MemberReport<FailInlet<ChannelInlet>, FailOutlet<ChannelOutlet>, Every, Participant>;
 
 fn links(rt: &impl Abort, alloc: Global, plan: Plan) -> Vec<Link> {
     let mut links = Vec::new(alloc);
@@ -66,10 +56,10 @@ fn links(rt: &impl Abort, alloc: Global, plan: Plan) -> Vec<Link> {
     links
 }
 
-fn paces(rt: &impl Abort, alloc: Global) -> Vec<Millisecond> {
+fn paces(rt: &impl Abort, alloc: Global) -> Vec<Every> {
     let mut paces = Vec::new(alloc);
     for _member in 0..SETTING.size {
-        paces.push(Millisecond).expect(rt, "memory");
+        paces.push(pace()).expect(rt, "memory");
     }
     paces
 }

@@ -1,6 +1,6 @@
 //! The pace of a conference. Sleeps are counted and not slept.
 
-use crate::running::Millisecond;
+use crate::running::pace;
 use cb_threads::Pace;
 use std::io;
 use std::process::Abort;
@@ -40,7 +40,7 @@ fn ten_ticks_are_ten_milliseconds_apart(rt: HostRuntime) {
         rt: &rt,
         sleeps: AtomicU64::new(0),
     };
-    let mut pace = Millisecond;
+    let mut pace = pace();
     for _tick in 0..10u32 {
         assert!(&rt; pace.wait(&clock).is_ok());
     }

@@ -22,8 +22,8 @@ use crate::participant::Participant;
 use crate::setting::{LinkKind, MOST_QUESTIONS, MOST_WORKING, RunSetting};
 use cb_member::{Group, History};
 use cb_threads::{
-    ChannelLink, GroupFault, GroupReport, Inlet, Limits, MemberReport, Outlet, Pace, PaceFault,
-    TcpLink, UdpLink, run_group,
+    ChannelLink, Every, GroupFault, GroupReport, Inlet, Limits, MemberReport, Outlet, TcpLink,
+    UdpLink, run_group,
 };
 use cb_trace::{AuditFault, WriteFault, audit, write_trace};
 use confer_text::{put_fault, put_parameter, write_whole};
@@ -31,7 +31,7 @@ use std::alloc::{AllocError, Global};
 use std::io::Write;
 use std::net::{Net, TcpListener, TcpStream};
 use std::sync::Wait;
-use std::thread::{Threads, sleep};
+use std::thread::Threads;
 use std::time::{Clock, Duration};
 
 /// The number of the group.
@@ -50,20 +50,8 @@ const _: () = prove!(
 );
 
 /// A millisecond between two ticks.
-#[derive(Drop)]
-pub struct Millisecond;
-
-impl Pace for Millisecond {
-    ghost failed = { λ pace. 0 };
-
-    fn failures(&self) -> u64 {
-        0
-    }
-
-    fn wait<R: Wait + Clock>(&mut self, rt: &R) -> Result<(), PaceFault> {
-        sleep(rt, Duration::from_millis(1));
-        Ok(())
-    }
+pub fn pace() -> Every {
+    Every(Duration::from_millis(1))
 }
 
 /// What is printed of a conference, and whether its audit said no.
@@ -180,7 +168,7 @@ pub fn run_over<I: Inlet + Send + Drop, O: Outlet + Send + Drop, R: Threads + Wa
 #[derive(Drop)]
 struct Crew {
     talkers: Vec<Participant>,
-    paces: Vec<Millisecond>,
+    paces: Vec<Every>,
 }
 
 fn gather_crew(alloc: Global, setting: RunSetting) -> Result<Crew, ThreadFault>
@@ -261,7 +249,7 @@ fn reported<I: Drop, O: Drop>(
     alloc: Global,
     setting: RunSetting,
     group: Group,
-    report: GroupReport<I, O, Millisecond, Participant>,
+    report: GroupReport<I, O, Every, Participant>,
 ) -> Result<RunText, ThreadFault>
     requires group { group ≡ group_of setting }
     requires parameters { AreParameters group }
@@ -290,12 +278,12 @@ pub fn participants(alloc: Global, setting: RunSetting) -> Result<Vec<Participan
     Ok(talkers)
 }
 
-fn paces(alloc: Global, size: u32) -> Result<Vec<Millisecond>, ThreadFault>
+fn paces(alloc: Global, size: u32) -> Result<Vec<Every>, ThreadFault>
     ensures { IfOk result (λ paces. length paces.items ≡ size) }
 {
     let mut paces = Vec::with_capacity(alloc, size as usize)?;
     for _member in 0..size {
-        paces.push(Millisecond)?;
+        paces.push(pace())?;
     }
     Ok(paces)
 }
@@ -305,7 +293,7 @@ fn run_text<I, O>(
     alloc: Global,
     setting: RunSetting,
     group: Group,
-    reports: &[MemberReport<I, O, Millisecond, Participant>],
+    reports: &[MemberReport<I, O, Every, Participant>],
     histories: &[History],
 ) -> Result<RunText, ThreadFault>
     requires group { group ≡ group_of setting }
@@ -327,7 +315,7 @@ fn run_text<I, O>(
 /// A line for each member. A worker's fault is the fault of all.
 pub fn lines_of<I, O>(
     alloc: Global,
-    reports: &[MemberReport<I, O, Millisecond, Participant>],
+    reports: &[MemberReport<I, O, Every, Participant>],
 ) -> Result<Vec<u8>, ThreadFault>
     ensures text { IfOk result (λ text. text.items ≡ report_lines 0 reports.now) }
     ensures ran { IfOk result (λ _. EachRan reports.now) }
@@ -401,7 +389,7 @@ fn refused(lines: Vec<u8>, refusal: AuditFault) -> Result<RunText, ThreadFault>
 fn put_line<I, O>(
     out: &mut Vec<u8>,
     member: usize,
-    report: &MemberReport<I, O, Millisecond, Participant>,
+    report: &MemberReport<I, O, Every, Participant>,
 ) -> Result<(), ThreadFault>
     ensures line { OnOk result (out.new.items ≡ out.old.items ++ report_line member report.now) }
     ensures ran { OnOk result (report.now.fault ≡ None) }
@@ -423,7 +411,7 @@ fn put_line<I, O>(
 fn put_counts<I, O>(
     out: &mut Vec<u8>,
     member: usize,
-    report: &MemberReport<I, O, Millisecond, Participant>,
+    report: &MemberReport<I, O, Every, Participant>,
     orphans: u32,
 ) -> Result<(), AllocError>
     ensures { OnOk result (out.new.items ≡ out.old.items
@@ -440,7 +428,7 @@ fn put_counts<I, O>(
 fn put_done<I, O>(
     out: &mut Vec<u8>,
     member: usize,
-    report: &MemberReport<I, O, Millisecond, Participant>,
+    report: &MemberReport<I, O, Every, Participant>,
 ) -> Result<(), AllocError>
     ensures { OnOk result (out.new.items ≡ out.old.items
         ++ done_text member (tally_in report.now)) }

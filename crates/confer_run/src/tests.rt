@@ -5,11 +5,11 @@ ghost use Rattle.confer_run.specs.Settings.{IsRunSetting};
 use crate::fault::ThreadFault;
 use crate::participant::Participant;
 use crate::run_conference;
-use crate::running::{Millisecond, lines_of};
+use crate::running::{lines_of, pace};
 use crate::setting::{LinkKind, RunSetting};
 use bytes::Bytes;
 use cb_member::{Event, Message};
-use cb_threads::{MemberReport, Talk, Talker, WorkerFault};
+use cb_threads::{Every, MemberReport, Talk, Talker, WorkerFault};
 use cb_times::{Name, VectorTime};
 use confer_fakes::{is_report, writing};
 use std::alloc::Global;
@@ -155,7 +155,7 @@ fn report(
     rt: &impl Abort,
     alloc: Global,
     fault: Option<WorkerFault>,
-) -> MemberReport<u8, u8, Millisecond, Participant> {
+) -> MemberReport<u8, u8, Every, Participant> {
     let mut talker = participant(rt, alloc);
     let orphan = delivered(rt, alloc, 1, b"\x02\x00\x01yes");
     let _ = answer_to(rt, &mut talker, orphan);
@@ -170,7 +170,7 @@ fn report(
         pace_failures: 17,
         inlet: Some(18),
         outlet: Some(19),
-        pace: Some(Millisecond),
+        pace: Some(pace()),
         talker: Some(talker),
         fault,
     }

@@ -2,12 +2,12 @@
 
 ghost use Rattle.std.specs.Prelude.{◌≡◌};
 
-use super::parts::{Counter, Counting, Millisecond};
+use super::parts::{Counter, Counting, millisecond};
 use super::reports::{hands_all_back, has_run_well};
 use super::speaker::inlet;
 use crate::{
-    ChannelLink, Gathering, GroupReport, Inlet, Limits, MemberReport, Outlet, Stop, Talk, Talker,
-    UdpLink, run_group, run_member,
+    ChannelLink, Every, Gathering, GroupReport, Inlet, Limits, MemberReport, Outlet, Stop, Talk,
+    Talker, UdpLink, run_group, run_member,
 };
 use cb_lock::{Seat, SharedMember};
 use cb_member::{Entry, Event, Group, History, Member, NoMemory};
@@ -134,7 +134,7 @@ fn runs<L: Ledger + Send + Sync, R: Threads + Wait + Clock + Abort + Sync>(
         shared,
         seats,
         link,
-        Millisecond,
+        millisecond(),
         talker,
         &stop,
         limits,
@@ -163,11 +163,11 @@ fn all_bursts<
     }
 }
 
-fn crew(rt: &impl Abort, alloc: Global) -> (Vec<Millisecond>, Vec<Gathering<Counting>>) {
+fn crew(rt: &impl Abort, alloc: Global) -> (Vec<Every>, Vec<Gathering<Counting>>) {
     let mut paces = Vec::new(alloc);
     let mut talkers = Vec::new(alloc);
     for member in 0..3u32 {
-        paces.push(Millisecond).expect(rt, "memory");
+        paces.push(millisecond()).expect(rt, "memory");
         talkers.push(talker(alloc, member)).expect(rt, "memory");
     }
     (paces, talkers)

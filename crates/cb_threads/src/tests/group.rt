@@ -2,11 +2,11 @@
 
 ghost use Rattle.std.specs.Prelude.{◌≡◌};
 
-use super::parts::{Counting, Millisecond};
+use super::parts::{Counting, millisecond};
 use super::reports::{hands_all_back, has_delivered, has_run_well};
 use crate::{
-    ChannelLink, GroupFault, GroupReport, Inlet, Limits, MemberReport, Outlet, Pace, TcpLink,
-    UdpLink, run_group,
+    ChannelLink, Every, GroupFault, GroupReport, Inlet, Limits, MemberReport, Outlet, Pace,
+    TcpLink, UdpLink, run_group,
 };
 use cb_member::Group;
 use std::alloc::Global;
@@ -32,10 +32,10 @@ fn all_casts<
     }
 }
 
-fn paces(rt: &impl Abort, alloc: Global, count: u32) -> Vec<Millisecond> {
+fn paces(rt: &impl Abort, alloc: Global, count: u32) -> Vec<Every> {
     let mut paces = Vec::new(alloc);
     for _member in 0..count {
-        paces.push(Millisecond).expect(rt, "memory");
+        paces.push(millisecond()).expect(rt, "memory");
     }
     paces
 }

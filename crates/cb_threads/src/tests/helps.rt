@@ -3,10 +3,12 @@
 ghost use Rattle.std.specs.Prelude.{◌≡◌};
 
 use super::naps::desk;
-use super::parts::{Counting, Hasty, Millisecond};
+use super::parts::{Counting, Hasty, millisecond};
 use super::reports::{hands_all_back, has_delivered, has_run_well};
 use crate::workers::{Job, Ticking, Worker};
-use crate::{ChannelLink, GroupReport, Limits, LinkFault, MemberReport, Outlet, Stop, run_group};
+use crate::{
+    ChannelLink, Every, GroupReport, Limits, LinkFault, MemberReport, Outlet, Stop, run_group,
+};
 use bytes::Bytes;
 use cb_links::{ChannelInlet, ChannelOutlet, Mailbox, new_mailbox};
 use cb_lock::{Seat, SharedMember};
@@ -70,9 +72,9 @@ impl<O: Outlet> Outlet for Leaky<O> {
     }
 }
 
-type Report = MemberReport<ChannelInlet, Leaky<ChannelOutlet>, Millisecond, Counting>;
+type Report = MemberReport<ChannelInlet, Leaky<ChannelOutlet>, Every, Counting>;
 
-type Ran = GroupReport<ChannelInlet, Leaky<ChannelOutlet>, Millisecond, Counting>;
+type Ran = GroupReport<ChannelInlet, Leaky<ChannelOutlet>, Every, Counting>;
 
 /// Each of three members casts twice, and has finished once it has seen all six. Nothing comes from
 /// member 0 to member 2, and this of what member 2 sends is dropped.
@@ -106,11 +108,11 @@ fn links(
     leaky
 }
 
-fn crew(rt: &impl Abort, alloc: Global) -> (Vec<Millisecond>, Vec<Counting>) {
+fn crew(rt: &impl Abort, alloc: Global) -> (Vec<Every>, Vec<Counting>) {
     let mut paces = Vec::new(alloc);
     let mut talkers = Vec::new(alloc);
     for _member in 0..3u32 {
-        paces.push(Millisecond).expect(rt, "memory");
+        paces.push(millisecond()).expect(rt, "memory");
         talkers.push(talker(alloc)).expect(rt, "memory");
     }
     (paces, talkers)

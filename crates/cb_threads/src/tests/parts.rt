@@ -3,7 +3,7 @@
 ghost use Rattle.std.specs.Prelude.{◌≡◌, ◌≤◌, false};
 ghost use Rattle.cb_links.specs.Counts.{HasCounted};
 
-use crate::{Inlet, LinkFault, Outlet, Pace, PaceFault, Received, Talk, Talker};
+use crate::{Every, Inlet, LinkFault, Outlet, Pace, PaceFault, Received, Talk, Talker};
 use cb_member::{Event, NoMemory, Outgoing};
 use std::alloc::{AllocError, Global};
 use std::sync::Wait;
@@ -127,20 +127,8 @@ impl<'a> Pace for Meeting<'a> {
 }
 
 /// A millisecond between two ticks.
-#[derive(Drop)]
-pub struct Millisecond;
-
-impl Pace for Millisecond {
-    ghost failed = { λ m. 0 };
-
-    fn failures(&self) -> u64 {
-        0
-    }
-
-    fn wait<R: Wait + Clock>(&mut self, rt: &R) -> Result<(), PaceFault> {
-        sleep(rt, Duration::from_millis(1));
-        Ok(())
-    }
+pub fn millisecond() -> Every {
+    Every(Duration::from_millis(1))
 }
 
 /// Who has nothing to say.

@@ -3,9 +3,9 @@
 
 ghost use Rattle.std.specs.Prelude.{◌≡◌};
 
-use super::parts::{Counting, Millisecond};
+use super::parts::{Counting, millisecond};
 use crate::{
-    ChannelInlet, ChannelLink, ChannelOutlet, GroupReport, Limits, MemberReport, run_group,
+    ChannelInlet, ChannelLink, ChannelOutlet, Every, GroupReport, Limits, MemberReport, run_group,
 };
 use cb_member::{Group, History};
 use std::alloc::Global;
@@ -15,7 +15,7 @@ use std::test::*;
 use std::thread::Threads;
 use std::time::Clock;
 
-type Ran = GroupReport<ChannelInlet, ChannelOutlet, Millisecond, Counting>;
+type Ran = GroupReport<ChannelInlet, ChannelOutlet, Every, Counting>;
 
 /// What becomes of three members, the first of whom casts once, the second twice and the third
 /// three times.
@@ -35,11 +35,11 @@ fn run_plan<R: Threads + Wait + Clock + Abort + Sync>(
     }
 }
 
-fn crew(rt: &impl Abort, alloc: Global) -> (Vec<Millisecond>, Vec<Counting>) {
+fn crew(rt: &impl Abort, alloc: Global) -> (Vec<Every>, Vec<Counting>) {
     let mut paces = Vec::new(alloc);
     let mut talkers = Vec::new(alloc);
     for casts in 1..=3u32 {
-        paces.push(Millisecond).expect(rt, "memory");
+        paces.push(millisecond()).expect(rt, "memory");
         talkers.push(talker(alloc, casts)).expect(rt, "memory");
     }
     (paces, talkers)

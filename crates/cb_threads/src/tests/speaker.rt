@@ -2,7 +2,7 @@
 
 ghost use Rattle.std.specs.Prelude.{◌≡◌};
 
-use super::parts::{Counter, Counting, Millisecond};
+use super::parts::{Counter, Counting, millisecond};
 use crate::{ChannelInlet, ChannelLink, Limits, Stop, Talk, Talker, run_member};
 use cb_lock::{Seat, SharedMember};
 use cb_member::{Event, Group, Member, NoMemory};
@@ -64,7 +64,7 @@ fn sent<L: Ledger + Send + Sync, R: Threads + Wait + Clock + Abort + Sync>(
         shared,
         seats,
         link,
-        Millisecond,
+        millisecond(),
         talker,
         &stop,
         limits,
@@ -143,7 +143,7 @@ fn waits<L: Ledger + Send + Sync, R: Threads + Wait + Clock + Abort + Sync>(
         shared,
         seats,
         link,
-        Millisecond,
+        millisecond(),
         talker,
         &stop,
         limits,
