@@ -233,11 +233,7 @@ impl<S: Write + Drop> Outlet for TcpOutlet<S> {
 }
 
 /// Offers the frame to one member; there is no connection for a number that is no other member's.
-fn offer_to<S: Write + Drop>(
-    to: &mut [Option<Going<S>>],
-    member: u32,
-    frame: &Bytes,
-) -> Offered {
+fn offer_to<S: Write + Drop>(to: &mut [Option<Going<S>>], member: u32, frame: &Bytes) -> Offered {
     match to.get_mut(member as usize) {
         Some(Some(going)) => Offered::of(going.send(frame.as_slice())),
         _ => Offered::failed(),

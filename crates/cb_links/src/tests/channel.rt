@@ -1,7 +1,9 @@
 //! Frames that a sender sends at once, over channels, and what becomes of them where an end is gone.
 
 use crate::waits::WAIT;
-use crate::{ChannelInlet, ChannelLink, ChannelOutlet, Inlet, Outlet, Received, Unsent};
+use crate::{
+    ChannelInlet, ChannelLink, ChannelOutlet, Inlet, Outlet, Received, Unsent, WaitingInlet,
+};
 use bytes::Bytes;
 use cb_history::Outgoing;
 use std::alloc::Global;
@@ -130,4 +132,40 @@ fn an_inlet_whose_senders_are_gone_waits(rt: HostRuntime) {
     }
     let ended = rt.monotonic().expect(&rt, "a clock");
     assert!(&rt; ended.saturating_sub(begun) >= Duration::from_micros(WAIT * LOOKS));
+}
+
+/// How long an inlet takes to say that nothing came within so many milliseconds.
+fn waits<R: Wait + Clock + Abort>(rt: &R, inlet: &mut ChannelInlet, longest: u64) -> Duration {
+    let begun = rt.monotonic().expect(rt, "a clock");
+    let answer = inlet.receive_within(rt, Duration::from_millis(longest));
+    assert!(rt; answer == Ok(Received::Nothing));
+    rt.monotonic().expect(rt, "a clock").saturating_sub(begun)
+}
+
+#[test]
+fn an_inlet_sleeps_for_as_long_as_it_may(rt: HostRuntime) {
+    let (of_0, mut of_1, of_2) = three(&rt, rt.alloc());
+    assert!(&rt; waits(&rt, &mut of_1.0, 0) < Duration::from_millis(50));
+    assert!(&rt; waits(&rt, &mut of_1.0, 60) >= Duration::from_millis(60));
+    drop(of_0);
+    drop(of_2);
+    assert!(&rt;
+        waits(&rt, &mut of_1.0, 60) >= Duration::from_millis(60),
+        "with no senders too"
+    );
+}
+
+#[test]
+fn an_inlet_does_not_sleep_where_a_frame_is_there(rt: HostRuntime) {
+    let (mut of_0, mut of_1, of_2) = three(&rt, rt.alloc());
+    sends(&rt, rt.alloc(), &mut of_0.1, 2);
+    let begun = rt.monotonic().expect(&rt, "a clock");
+    for text in [b"all", b"one"] {
+        let frame = Received::Frame(Bytes::from_static(text));
+        let came = of_1.0.receive_within(&rt, Duration::from_secs(20));
+        assert!(&rt; came == Ok(frame));
+    }
+    let slept = rt.monotonic().expect(&rt, "a clock").saturating_sub(begun);
+    assert!(&rt; slept < Duration::from_secs(10));
+    drop(of_2);
 }
