@@ -1,5 +1,9 @@
 //! The connection between a member and one other.
 
+ghost use Rattle.std.specs.Prelude.{◌≡◌, IfSome, MatchResult, None, true};
+ghost use Rattle.cb_peers.specs.Hellos.{disagreement};
+ghost use Rattle.cb_remote.specs.declared.greeter.GreetFault.TheVariants.{Disagrees};
+
 use crate::greeter::{GreetFault, Greeter};
 use bytes::Bytes;
 use cb_links::{Coming, Going, LinkFault, ROOM};
@@ -223,7 +227,10 @@ fn heard(
 }
 
 /// Both ends agree.
-pub fn agreed(own: Hello, theirs: Hello) -> Result<bool, GreetFault> {
+pub fn agreed(own: Hello, theirs: Hello) -> Result<bool, GreetFault>
+    ensures { MatchResult result (λ yes. (yes ≡ true) × (disagreement own theirs ≡ None))
+        (λ fault. IfSome (disagreement own theirs) (λ why. fault ≡ Disagrees why)) }
+{
     match own.disagreement(theirs) {
         None => Ok(true),
         Some(why) => Err(GreetFault::Disagrees(why)),

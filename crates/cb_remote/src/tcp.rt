@@ -3,7 +3,7 @@
 //! Of two members the one with the smaller number calls the other one. A connection that is lost is
 //! made again; what was under way on it is lost, and asked for again by the members.
 
-ghost use Rattle.std.specs.Prelude.{◌≡◌, ◌≤◌, IfErr, MatchResult};
+ghost use Rattle.std.specs.Prelude.{◌≡◌, ◌≤◌, IfErr, IfOk, MatchResult, length};
 ghost use Rattle.cb_links.specs.Counts.{LinkCounts};
 ghost use Rattle.cb_links.specs.Offers.{failures_with};
 
@@ -88,7 +88,15 @@ impl TcpPeers {
         alloc: Global,
         group: Group,
         peers: &Peers,
-    ) -> Result<(TcpPeerInlet<N>, TcpPeerOutlet), MakeFault> {
+    ) -> Result<(TcpPeerInlet<N>, TcpPeerOutlet), MakeFault>
+        ensures size { IfOk result (λ _. length peers.now.others.items ≡ group.size) }
+        ensures me { IfOk result (λ link. link.0.local.me ≡ peers.now.me) }
+        ensures terms { IfOk result (λ link. link.0.local.terms ≡ record {
+          group = group.number;
+          size = group.size;
+          window = group.window;
+        }) }
+    {
         if peers.others().len() != group.size() as usize {
             return Err(MakeFault::BadMember);
         }
@@ -153,7 +161,9 @@ impl<N: Net + Drop> TcpPeerInlet<N> {
         local: Local,
         peers: &Peers,
         ends: Arc<Mutex<Ends>>,
-    ) -> Result<TcpPeerInlet<N>, MakeFault> {
+    ) -> Result<TcpPeerInlet<N>, MakeFault>
+        ensures { IfOk result (λ inlet. inlet.local ≡ local) }
+    {
         let poll = Poll::new(&net)?;
         let mut door = TcpListener::bind(&net, peers.own())?;
         poll.registry()
