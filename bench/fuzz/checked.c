@@ -19,6 +19,8 @@ static struct {
     jolunza_range ranges[256 + 1];
     uint32_t times[MOST_HEADS * JOLUNZA_MOST_MEMBERS + 1];
     uint8_t bytes[MOST_BYTES + 1];
+    jolunza_delayed delayed;
+    bool full;
     size_t count;
 } filled;
 
@@ -49,6 +51,8 @@ static void untouch_fronts(void)
     UNTOUCH(filled.ranges[0]);
     memset(filled.times, UNTOUCHED, sizeof(jolunza_counts));
     UNTOUCH(filled.bytes[0]);
+    UNTOUCH(filled.delayed);
+    UNTOUCH(filled.full);
     UNTOUCH(filled.count);
 }
 
@@ -56,7 +60,8 @@ static bool are_fronts_untouched(void)
 {
     return IS_UNTOUCHED(filled.received) && IS_UNTOUCHED(filled.frames[0]) && IS_UNTOUCHED(filled.events[0])
         && IS_UNTOUCHED(filled.entry) && IS_UNTOUCHED(filled.names[0]) && IS_UNTOUCHED(filled.ranges[0])
-        && is_untouched(filled.times, sizeof(jolunza_counts)) && IS_UNTOUCHED(filled.bytes[0]) && IS_UNTOUCHED(filled.count);
+        && is_untouched(filled.times, sizeof(jolunza_counts)) && IS_UNTOUCHED(filled.bytes[0]) && IS_UNTOUCHED(filled.delayed)
+        && IS_UNTOUCHED(filled.full) && IS_UNTOUCHED(filled.count);
 }
 
 static size_t lesser(size_t a, size_t b)
@@ -295,6 +300,30 @@ static void same_missing(struct checked *checked, uint32_t member, size_t capaci
     reached_amount(AMOUNT_MISSING, count);
 }
 
+static void same_delayed(struct checked *checked, uint32_t member)
+{
+    jolunza_delayed delayed = {false, 0, 0, 0, 0};
+    bool waits = model_waits_for(&checked->model, member, &delayed);
+    const jolunza_delayed *d = &filled.delayed;
+    uint32_t code = reached(CALL_WAITS_FOR, jolunza_waits_for(&checked->handle, member, &filled.delayed));
+
+    MUST(code == (waits ? JOLUNZA_DONE : JOLUNZA_NONE_THERE));
+    MUST(!waits || (d->is_ready == delayed.is_ready && d->number == delayed.number && d->sender == delayed.sender
+                    && d->first == delayed.first && d->last == delayed.last));
+}
+
+/* How far the member is with the casts of this one. */
+static void same_acknowledged(struct checked *checked, uint32_t member)
+{
+    uint32_t count = model_acknowledged(&checked->model, member), own = checked->model.time[checked->model.me];
+    bool full = member != checked->model.me && own - count >= checked->model.window;
+
+    MUST(reached(CALL_ACKNOWLEDGED_BY, jolunza_acknowledged_by(&checked->handle, member, filled.times)) == JOLUNZA_DONE);
+    MUST(filled.times[0] == count);
+    MUST(reached(CALL_KEEPS_WINDOW_FULL, jolunza_keeps_window_full(&checked->handle, member, &filled.full)) == JOLUNZA_DONE);
+    MUST(filled.full == full);
+}
+
 static void same_of_member(struct checked *checked, uint32_t member)
 {
     uint32_t stable;
@@ -302,6 +331,8 @@ static void same_of_member(struct checked *checked, uint32_t member)
     MUST(reached(CALL_STABLE_OF, jolunza_stable_of(&checked->handle, member, &stable)) == JOLUNZA_DONE);
     MUST(stable == model_stable(&checked->model, member));
     reached_amount(AMOUNT_STABLE, stable);
+    same_acknowledged(checked, member);
+    same_delayed(checked, member);
     if (member != checked->model.me)
         same_missing(checked, member, 256);
 }
@@ -363,6 +394,8 @@ static void same(struct checked *checked)
     same_time(checked, JOLUNZA_MOST_MEMBERS);
     MUST(reached(CALL_STABLE, jolunza_stable(&checked->handle, &stable)) == JOLUNZA_DONE);
     MUST(stable == model_stable(&checked->model, checked->model.me));
+    MUST(reached(CALL_WAITING, jolunza_waiting(&checked->handle, filled.times)) == JOLUNZA_DONE);
+    MUST(filled.times[0] == model_waiting(&checked->model));
     same_of_members(checked, MOST_IN_TURN);
     if (!checked->skips_frames)
         same_frames(checked, ROOM);
@@ -722,11 +755,18 @@ void checked_read(struct checked *checked, struct room room)
         }
 }
 
+static void none_of_no_member(struct checked *checked, uint32_t member)
+{
+    MUST(reached(CALL_STABLE_OF, jolunza_stable_of(&checked->handle, member, filled.times)) == JOLUNZA_BAD_MEMBER);
+    MUST(reached(CALL_ACKNOWLEDGED_BY, jolunza_acknowledged_by(&checked->handle, member, filled.times)) == JOLUNZA_BAD_MEMBER);
+    MUST(reached(CALL_WAITS_FOR, jolunza_waits_for(&checked->handle, member, &filled.delayed)) == JOLUNZA_NONE_THERE);
+}
+
 void checked_read_none(struct checked *checked, uint32_t member)
 {
     untouch_fronts();
     if (member >= checked->model.size)
-        MUST(reached(CALL_STABLE_OF, jolunza_stable_of(&checked->handle, member, filled.times)) == JOLUNZA_BAD_MEMBER);
+        none_of_no_member(checked, member);
     if (member >= checked->model.size || member == checked->model.me)
         MUST(reached(CALL_MISSING, jolunza_missing(&checked->handle, member, filled.ranges, 1, &filled.count))
              == JOLUNZA_BAD_MEMBER);
@@ -762,6 +802,10 @@ static void closed_readings(jolunza_handle *handle)
     MUST(reached(CALL_TIME, jolunza_time(handle, filled.times, 9)) == JOLUNZA_CLOSED);
     MUST(reached(CALL_STABLE, jolunza_stable(handle, filled.times)) == JOLUNZA_CLOSED);
     MUST(reached(CALL_STABLE_OF, jolunza_stable_of(handle, 0, filled.times)) == JOLUNZA_CLOSED);
+    MUST(reached(CALL_ACKNOWLEDGED_BY, jolunza_acknowledged_by(handle, 0, filled.times)) == JOLUNZA_CLOSED);
+    MUST(reached(CALL_KEEPS_WINDOW_FULL, jolunza_keeps_window_full(handle, 0, &filled.full)) == JOLUNZA_CLOSED);
+    MUST(reached(CALL_WAITING, jolunza_waiting(handle, filled.times)) == JOLUNZA_CLOSED);
+    MUST(reached(CALL_WAITS_FOR, jolunza_waits_for(handle, 0, &filled.delayed)) == JOLUNZA_CLOSED);
     MUST(reached(CALL_MISSING, jolunza_missing(handle, 1, filled.ranges, 9, &filled.count)) == JOLUNZA_CLOSED);
 }
 

@@ -95,6 +95,48 @@ uint32_t model_stable(const struct model *model, uint32_t member)
     return model->stable[member];
 }
 
+uint32_t model_acknowledged(const struct model *model, uint32_t member)
+{
+    return member == model->me ? model->time[model->me] : model->peers[model->me].acknowledged[member];
+}
+
+/* The first number of a frame that is not delivered. */
+static uint32_t first_undelivered(const struct model *model, uint32_t member, const struct cast *cast)
+{
+    return greater(cast->first, model->time[member] + 1);
+}
+
+uint32_t model_waiting(const struct model *model)
+{
+    uint32_t count = 0;
+
+    for (uint32_t i = 0; i < model->size; i++)
+        for (const struct cast *cast = model->peers[i].waiting; cast != NULL; cast = cast->next)
+            count += cast->last - first_undelivered(model, i, cast) + 1;
+    return count;
+}
+
+bool model_waits_for(const struct model *model, uint32_t member, jolunza_delayed *delayed)
+{
+    const struct cast *cast = model->peers[member].waiting;
+    uint32_t number;
+
+    if (cast == NULL)
+        return false;
+    number = first_undelivered(model, member, cast);
+    *delayed = (jolunza_delayed){true, number, 0, 0, 0};
+    if (number > model->peers[member].expanded) {
+        *delayed = (jolunza_delayed){false, number, member, model->time[member] + 1, number - 1};
+        return true;
+    }
+    for (uint32_t i = 0; i < model->size; i++)
+        if (i != member && cast->time[i] > model->time[i]) {
+            *delayed = (jolunza_delayed){false, number, i, model->time[i] + 1, cast->time[i]};
+            return true;
+        }
+    return true;
+}
+
 /* The stable number from all that is known. */
 static uint32_t least_of_others(const struct model *model, uint32_t member)
 {

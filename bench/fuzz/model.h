@@ -81,6 +81,15 @@ uint32_t model_tick(struct model *model);
 uint32_t model_help(struct model *model, uint32_t member);
 uint32_t model_stable(const struct model *model, uint32_t member);
 
+/* How many of this member's casts one is known to have delivered. */
+uint32_t model_acknowledged(const struct model *model, uint32_t member);
+
+/* How many messages were received and are not delivered. */
+uint32_t model_waiting(const struct model *model);
+
+/* Whether a message of the member waits; then the first one and what it waits for. */
+bool model_waits_for(const struct model *model, uint32_t member, jolunza_delayed *delayed);
+
 /* The ranges of what is missing of another member: at most 256. */
 size_t model_missing(const struct model *model, uint32_t member, jolunza_range *ranges);
 

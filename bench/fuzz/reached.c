@@ -29,6 +29,10 @@ static const char *const CALL_NAMES[CALLS] = {
     [CALL_TIME] = "time",
     [CALL_STABLE] = "stable",
     [CALL_STABLE_OF] = "stable_of",
+    [CALL_ACKNOWLEDGED_BY] = "acknowledged_by",
+    [CALL_KEEPS_WINDOW_FULL] = "keeps_window_full",
+    [CALL_WAITING] = "waiting",
+    [CALL_WAITS_FOR] = "waits_for",
     [CALL_MISSING] = "missing",
 };
 
@@ -87,10 +91,12 @@ static uint32_t named(enum call call)
     case CALL_MISSING:
         return CODES(JOLUNZA_BAD_MEMBER, JOLUNZA_NO_MEMORY);
     case CALL_STABLE_OF:
+    case CALL_ACKNOWLEDGED_BY:
         return CODES(JOLUNZA_BAD_MEMBER);
     case CALL_FRAME:
     case CALL_EVENT:
     case CALL_ENTRY:
+    case CALL_WAITS_FOR:
         return CODES(JOLUNZA_NONE_THERE);
     default:
         return 0;
@@ -106,7 +112,7 @@ static bool is_named(enum call call, uint32_t code)
 
 static void print_call(enum call call)
 {
-    fprintf(stderr, "%-14s", CALL_NAMES[call]);
+    fprintf(stderr, "%-17s", CALL_NAMES[call]);
     for (uint32_t code = 0; code < CODE_COUNT; code++)
         if (is_named(call, code))
             fprintf(stderr, " %s %lu", CODE_NAMES[code], counts[call][code]);
