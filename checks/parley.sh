@@ -140,6 +140,8 @@ for fault in UnknownQuestion BadRoom UnknownOrder; do
 done
 type 2 '/who'
 check '/who tells of each other' within 5 grep -qE '^1: 11 delivered, silent for [0-9]+ s$' screen.2
+type 2 '/why'
+check '/why tells that nothing waits' within 5 grep -qx 'nothing waits here' screen.2
 
 # the trace
 sleep 3
@@ -173,6 +175,9 @@ check 'all leave, with nothing left unsaid' refuses grep -F 'not known to be' sc
 begin 0 screen.0.alone --group 9 --journal journal.0
 for line in $(seq 40); do says 0 "line $line"; done
 check 'a full window is said' within 20 grep -qF 'parley: WindowFull: ' screen.0.alone.said
+type 0 '/why'
+check '/why names who keeps the window full' within 5 \
+    grep -qx '2 keeps your window full: it is known to have 0 of your 32 lines' screen.0.alone
 check 'what waits is in the journal' within 20 has_count 40 '^say' journal.0
 kill -9 "${pids[0]}" && wait "${pids[0]}" 2> /dev/null
 begin 0 screen.0.back --group 9 --journal journal.0

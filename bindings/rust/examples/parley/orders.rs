@@ -18,6 +18,7 @@ impl Session {
             Ok(Order::Answer { question, text }) => self.utter(self.state.conference.answer(question, text))?,
             Ok(Order::Room(name)) => self.enter(name)?,
             Ok(Order::Who) => self.list_others(now)?,
+            Ok(Order::Why) => self.tell_why()?,
             Ok(Order::Trace(path)) => self.trace(path)?,
             Ok(Order::Group(number)) => self.change_group(number)?,
             Ok(Order::Help) => self.screen.put(HELP)?,
@@ -50,6 +51,10 @@ impl Session {
     fn list_others(&self, now: Instant) -> io::Result<()> {
         let lines = self.peers.lines(&self.state.member, now);
         lines.iter().try_for_each(|line| self.screen.put(line))
+    }
+
+    fn tell_why(&self) -> io::Result<()> {
+        self.state.why().iter().try_for_each(|line| self.screen.put(line))
     }
 
     fn trace(&mut self, path: &str) -> io::Result<()> {

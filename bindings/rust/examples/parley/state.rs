@@ -2,7 +2,7 @@
 
 use crate::journal::Record;
 use crate::lines::Conference;
-use jolunza::{Member, Refusal, Settings, LONGEST_PAYLOAD, MOST_MESSAGES};
+use jolunza::{Awaited, Delayed, Member, Refusal, Settings, LONGEST_PAYLOAD, MOST_MESSAGES};
 use std::collections::VecDeque;
 
 #[derive(Debug)]
@@ -79,6 +79,27 @@ impl State {
         }
     }
 
+    /// What waits here and what for, and who keeps the window full: a line for each.
+    pub fn why(&self) -> Vec<String> {
+        let member = &self.member;
+        let members = 0..member.settings().size;
+        let mut lines = vec![match member.waiting() {
+            0 => "nothing waits here".into(),
+            1 => "1 message waits here".into(),
+            count => format!("{count} messages wait here"),
+        }];
+        lines.extend(members.clone().filter_map(|sender| member.waits_for(sender)).map(|delayed| delay_of(&delayed)));
+        let full: Vec<u32> = members.filter(|other| member.keeps_window_full(*other)).collect();
+        if full.is_empty() {
+            lines.push("nobody keeps your window full".into());
+        }
+        lines.extend(full.iter().map(|other| {
+            let has = member.acknowledged_by(*other).unwrap_or(0);
+            format!("{other} keeps your window full: it is known to have {has} of your {} lines", self.own_casts())
+        }));
+        lines
+    }
+
     /// Everybody is known to have what this member said.
     pub fn is_everywhere(&self) -> bool {
         self.waiting.is_empty() && self.member.stable() == self.own_casts()
@@ -87,6 +108,19 @@ impl State {
     pub fn misses_something(&self) -> bool {
         let others = 0..self.member.settings().size;
         others.filter_map(|other| self.member.missing(other).ok()).any(|ranges| !ranges.is_empty())
+    }
+}
+
+fn delay_of(delayed: &Delayed) -> String {
+    let name = delayed.name;
+    match &delayed.awaits {
+        None => format!("{name} comes with the next line"),
+        Some(Awaited { sender, numbers }) if numbers.start() == numbers.end() => {
+            format!("{name} waits for {sender}.{}", numbers.start())
+        }
+        Some(Awaited { sender, numbers }) => {
+            format!("{name} waits for {sender}.{} to {sender}.{}", numbers.start(), numbers.end())
+        }
     }
 }
 
@@ -140,6 +174,30 @@ mod tests {
         assert_eq!((state.next_cast(), state.own_casts()), (Record::Cast, 5));
         let numbers: Vec<_> = state.member.new_events().map(|event| event.name.number).collect();
         assert_eq!(numbers, [1, 2, 3, 4, 5]);
+    }
+
+    #[test]
+    fn what_waits_and_who_keeps_the_window_full_is_told() {
+        let mut state = State::new(Settings { group: 7, size: 3, window: 3, me: 0, history_max: 100 }).unwrap();
+        for text in ["a", "b", "c"] {
+            assert_eq!(state.why(), ["nothing waits here", "nobody keeps your window full"]);
+            state.apply(&say(text)).unwrap();
+            state.apply(&Record::Cast).unwrap();
+        }
+        let full = |other| format!("{other} keeps your window full: it is known to have 0 of your 3 lines");
+        assert_eq!(state.why(), ["nothing waits here".into(), full(1), full(2)]);
+        let frames =
+            [&b"\x12\x07\x01\x01\x00\x01"[..], b"\x11\x07\x01\x03\x00\x00", b"\x11\x07\x02\x01\x01\x01\x01\x00"];
+        for frame in frames {
+            state.apply(&Record::Arrive(frame.to_vec())).unwrap();
+        }
+        let waits = ["2 messages wait here", "1.3 waits for 1.1 to 1.2", "2.1 waits for 1.1"];
+        assert_eq!(state.why()[..3], waits);
+        assert_eq!(state.why()[3..], [full(2)]);
+        for frame in [b"\x11\x07\x01\x01\x00\x00", b"\x11\x07\x01\x02\x00\x00"] {
+            state.apply(&Record::Arrive(frame.to_vec())).unwrap();
+        }
+        assert_eq!(state.why(), ["nothing waits here".into(), full(2)]);
     }
 
     #[test]

@@ -12,6 +12,7 @@ pub enum Order<'a> {
     Answer { question: Name, text: &'a str },
     Room(&'a str),
     Who,
+    Why,
     Trace(&'a str),
     Group(u32),
     Help,
@@ -49,6 +50,7 @@ TEXT            say it in the room
 /room NAME      what you say from now on is said in this room
 /re 0.3 TEXT    answer the third message of member 0
 /who            what is delivered of each other member, and since when it is silent
+/why            what waits here and what for, and who keeps your window full
 /trace FILE     write this member's part of a trace
 /group NUMBER   begin a new group; everybody has to
 /quit           leave, once everybody is known to have what you said";
@@ -69,6 +71,7 @@ pub fn order_in(line: &[u8]) -> Result<Order<'_>, Fault<'_>> {
         "/trace" => Ok(Order::Trace(needed(rest, "/trace FILE")?)),
         "/group" => Ok(Order::Group(number_in(needed(rest, "/group NUMBER")?)?)),
         "/who" => alone(rest, Order::Who),
+        "/why" => alone(rest, Order::Why),
         "/help" => alone(rest, Order::Help),
         "/quit" => alone(rest, Order::Quit),
         _ => Err(Fault::UnknownOrder(word)),
@@ -120,7 +123,7 @@ mod tests {
     #[test]
     fn each_order_is_read() {
         let question = Name { sender: 0, number: 3 };
-        let rows: [(&str, Order<'_>); 11] = [
+        let rows: [(&str, Order<'_>); 12] = [
             ("", Order::Nothing),
             ("hi there", Order::Say("hi there")),
             ("//who", Order::Say("/who")),
@@ -128,6 +131,7 @@ mod tests {
             ("/re 0.3 at noon", Order::Answer { question, text: "at noon" }),
             ("/re 0.3  two spaces", Order::Answer { question, text: " two spaces" }),
             ("/who", Order::Who),
+            ("/why", Order::Why),
             ("/trace my file", Order::Trace("my file")),
             ("/group 8", Order::Group(8)),
             ("/help ", Order::Help),
