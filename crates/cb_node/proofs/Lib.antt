@@ -1,0 +1,5 @@
+pub mod Growing
+pub mod Desks
+pub mod Courses
+pub mod Turns
+pub mod Sending

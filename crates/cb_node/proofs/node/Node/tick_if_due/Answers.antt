@@ -1,0 +1,5 @@
+use Rattle.cb_node.proofs.Turns.{nothing_gone}
+use Rattle.cb_node.proofs.node.Node.tick_if_due.Goals as goal
+
+pub returns-then-not-is_zero-clause-gone : goal.returns-then-not-is_zero-clause-gone
+returns-then-not-is_zero-clause-gone g c = nothing_gone _ _

@@ -1,0 +1,7 @@
+pub mod FaultText
+pub mod Refusing
+pub mod Course
+pub mod Kept
+pub mod Desk
+pub mod Turning
+pub mod Pacing

@@ -1,0 +1,127 @@
+//! How often a node ticks, by a clock that is set.
+
+use crate::fault::TurnFault;
+use crate::keeper::{KeepFault, NoJournal};
+use crate::node::Node;
+use crate::pace::{BadBounds, Bounds};
+use crate::tests::fakes::{Broken, SetClock, Short, Silent, Timed};
+use cb_links::{ChannelLink, ChannelOutlet, WaitingInlet};
+use cb_member::{Group, Member};
+use std::alloc::Global;
+use std::process::Abort;
+use std::sync::Wait;
+use std::time::{Clock, Duration};
+
+fn bounds(rt: &impl Abort) -> Bounds {
+    Bounds::new(Duration::from_millis(10), Duration::from_secs(1)).expect(rt, "bounds")
+}
+
+fn member(rt: &impl Abort, alloc: Global) -> Member {
+    let group = Group::new(7, 3, 4).expect(rt, "a group");
+    Member::new(alloc, group, 0, 100).expect(rt, "a member")
+}
+
+/// Its frames go nowhere: the others' inlets are gone.
+fn outlet(rt: &impl Abort, alloc: Global) -> ChannelOutlet {
+    let mut links = ChannelLink::group(alloc, 3).expect(rt, "memory");
+    links.pop().expect(rt, "a link").1
+}
+
+fn alone<I: WaitingInlet>(
+    rt: &impl Abort,
+    alloc: Global,
+    inlet: I,
+) -> Node<I, ChannelOutlet, NoJournal> {
+    let link = (inlet, outlet(rt, alloc));
+    Node::new(alloc, member(rt, alloc), link, bounds(rt), NoJournal)
+}
+
+/// How many ticks the node makes in so many milliseconds, in turns of a quarter of a second at most.
+fn ticks_in<I: WaitingInlet, R: Wait + Clock + Abort>(
+    rt: &R,
+    node: &mut Node<I, ChannelOutlet, NoJournal>,
+    millis: u64,
+) -> u64 {
+    let clock = SetClock::new();
+    let timed = Timed { rt, clock: &clock };
+    let before = node.ticks();
+    for _turn in 0..10_000u64 {
+        if clock.micros() >= millis.saturating_mul(1_000) {
+            break;
+        }
+        node.turn(&timed, Duration::from_millis(250))
+            .expect(rt, "a turn");
+    }
+    node.ticks().wrapping_sub(before)
+}
+
+#[test]
+fn bounds_that_are_none_are_refused(rt: HostRuntime) {
+    let millis = |ms: u64| Duration::from_millis(ms);
+    let table = [
+        (Duration::ZERO, millis(5), false),
+        (millis(1), millis(1), true),
+        (millis(6), millis(5), false),
+        (millis(1), millis(3_600_000), true),
+        (millis(1), millis(3_600_001), false),
+    ];
+    for (quick, slow, good) in table {
+        let made = Bounds::new(quick, slow);
+        assert!(&rt; made.is_ok() == good);
+        assert!(&rt; good || made == Err(BadBounds));
+    }
+}
+
+/// The first status is new, and then four ticks find all quiet at the quick pace: five ticks by 40
+/// milliseconds, and then one a second.
+#[test]
+fn a_quiet_node_ticks_slowly(rt: HostRuntime) {
+    let mut node = alone(&rt, rt.alloc(), Silent);
+    let ticks = ticks_in(&rt, &mut node, 10_500);
+    assert!(&rt; ticks == 15);
+}
+
+/// What it casts nobody acknowledges: it ticks at first, and then each 10 milliseconds.
+#[test]
+fn a_node_with_an_open_cast_ticks_quickly(rt: HostRuntime) {
+    let mut node = alone(&rt, rt.alloc(), Silent);
+    let _named = node.cast(b"hi").expect(&rt, "a cast");
+    let ticks = ticks_in(&rt, &mut node, 1_000);
+    assert!(&rt; ticks == 101);
+}
+
+#[test]
+fn a_link_that_fails_is_counted_and_slept_on(rt: HostRuntime) {
+    let mut node = alone(&rt, rt.alloc(), Broken::new());
+    let clock = SetClock::new();
+    let timed = Timed {
+        rt: &rt,
+        clock: &clock,
+    };
+    for _turn in 0..5u32 {
+        node.turn(&timed, Duration::from_secs(1))
+            .expect(&rt, "a turn");
+    }
+    assert!(&rt; node.counts().receive_failures == 5);
+    assert!(&rt; clock.micros() == 5_000);
+}
+
+/// The first entry is kept, the second is not: its frame is not sent and its event not shown.
+#[test]
+fn what_is_not_kept_is_neither_sent_nor_shown(rt: HostRuntime) {
+    let alloc = rt.alloc();
+    let link = (Silent, outlet(&rt, alloc));
+    let keeper = Short { left: 1 };
+    let mut node = Node::new(alloc, member(&rt, alloc), link, bounds(&rt), keeper);
+    let _named = node.cast(b"one").expect(&rt, "a cast");
+    let second = node.cast(b"two").is_err();
+    assert!(&rt; second);
+    let turned = node.turn(&rt, Duration::ZERO);
+    assert!(&rt; turned == Err(TurnFault::NotKept(KeepFault::Device)));
+    let news = node.news().len();
+    assert!(&rt; news == 1);
+    assert!(&rt; node.counts().offered == 1);
+    let again = node.turn(&rt, Duration::ZERO);
+    assert!(&rt; again == Err(TurnFault::NotKept(KeepFault::Device)));
+    assert!(&rt; node.news().is_empty());
+}
