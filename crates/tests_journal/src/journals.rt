@@ -41,11 +41,11 @@ fn the_worked_journal_is_read(rt: HostRuntime) {
 #[test]
 fn each_cut_behind_the_head_is_a_beginning(rt: HostRuntime) {
     let text = WORKED.as_bytes();
-    let mut count = 0;
+    let mut count: usize = 0;
     let mut whole = HEAD;
     for length in HEAD..=text.len() {
         if length > HEAD && text[length - 1] == b'\n' {
-            count += 1;
+            count = count.saturating_add(1);
             whole = length;
         }
         let journal = read(&rt, rt.alloc(), &text[..length]);

@@ -77,9 +77,10 @@ fn what_a_crash_leaves_brings_it_back(rt: HostRuntime) {
     let member = member(&rt, rt.alloc());
     let text = journal_of(&rt, rt.alloc(), member.seat(), member.history());
     drop(member);
-    let mut counts = [0; 5];
+    let mut counts: [u32; 5] = [0; 5];
     for length in 42..=text.len() {
-        counts[entries_of(&rt, rt.alloc(), &text[..length]).min(4)] += 1;
+        let place = entries_of(&rt, rt.alloc(), &text[..length]).min(4);
+        counts[place] = counts[place].saturating_add(1);
     }
     drop(text);
     // The lengths of the five lines behind the head; the last cut has all.
@@ -91,7 +92,8 @@ fn history_with(rt: &impl Abort, alloc: Global, me: u32, again: &[usize]) -> His
     let member = member(rt, alloc);
     let mut entries = Entry::copies(alloc, member.history()).expect(rt, "memory");
     for place in again {
-        let entry = member.history()[*place].copy().expect(rt, "memory");
+        let entry = member.history().get(*place).expect(rt, "it is there");
+        let entry = entry.copy().expect(rt, "memory");
         entries.push(entry).expect(rt, "memory");
     }
     drop(member);
