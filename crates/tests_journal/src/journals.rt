@@ -50,7 +50,13 @@ fn each_cut_behind_the_head_is_a_beginning(rt: HostRuntime) {
         }
         let journal = read(&rt, rt.alloc(), &text[..length]);
         assert_eq!(&rt; (journal.read, length), (whole, length));
-        is_worked(&rt, rt.alloc(), &journal, count, length - whole);
+        is_worked(
+            &rt,
+            rt.alloc(),
+            &journal,
+            count,
+            length.saturating_sub(whole),
+        );
     }
 }
 
