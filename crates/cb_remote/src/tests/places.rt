@@ -11,12 +11,13 @@ use std::sync::Wait;
 use std::test::*;
 use std::time::{Clock, Duration};
 
-/// Addresses that nobody has now. They are all held before one is let go, so no two are alike.
+/// Addresses that nobody has now. They are all held before one is let go, so no two are alike. Their host is one at which no other
+/// program of this machine is: a connection of another test may take any port of the usual one.
 pub fn free<R: Net + Abort>(rt: &R, alloc: Global, count: u32) -> Vec<SocketAddr> {
     let mut sockets = Vec::new(alloc);
     let mut free = Vec::new(alloc);
     for _member in 0..count {
-        let socket = UdpSocket::bind(rt, "127.0.0.1:0").expect(rt, "a socket");
+        let socket = UdpSocket::bind(rt, "127.77.88.99:0").expect(rt, "a socket");
         let address = socket.local_addr().expect(rt, "an address");
         free.push(address).expect(rt, "memory");
         sockets.push(socket).expect(rt, "memory");

@@ -69,17 +69,29 @@ fn meet<R: Wait + Clock + Abort, N: Net + Drop>(
     panic!(rt; "they have not met");
 }
 
-/// Both make turns until each has refused the other, and says why.
+/// Both make turns until each has refused the other, at most four hundred.
+fn until_refused<R: Wait + Clock, N: Net + Drop>(
+    rt: &R,
+    caller: &mut TcpPeerInlet<N>,
+    called: &mut TcpPeerInlet<N>,
+) {
+    for _turn in 0..400u32 {
+        if caller.refusal().is_some() && called.refusal().is_some() {
+            return;
+        }
+        let _ = caller.receive_within(rt, a_while());
+        let _ = called.receive_within(rt, a_while());
+    }
+}
+
+/// Each refuses the other, and says why.
 fn refuse<R: Wait + Clock + Abort, N: Net + Drop>(
     rt: &R,
     caller: &mut TcpPeerInlet<N>,
     called: &mut TcpPeerInlet<N>,
     why: Disagreement,
 ) {
-    for _turn in 0..200u32 {
-        let _ = caller.receive_within(rt, a_while());
-        let _ = called.receive_within(rt, a_while());
-    }
+    until_refused(rt, caller, called);
     let of_1 = Refusal {
         member: Some(1),
         why,
