@@ -5,10 +5,11 @@
 # frames that were forged before and their bytes, and the instructions for each byte of the frame and for each byte of all.
 #   bench/attack.sh                      all attacks, windows 64 and 256
 #   bench/attack.sh table ATTACK..       these
-#   bench/attack.sh search STEPS [SEED]  climbs so many steps from random beginnings: over the ranges of a request at window 256, and over
-#                                        who waits for whom at window 8, where all goes at once; prints the most that it found, and
-#                                        behind it what the attacks of the table cost
-# It wants gcc, valgrind, python3, and the library (bindings/build.sh). ARCHIVE=FILE takes another archive, JOBS=4 runs four at a time.
+#   bench/attack.sh search STEPS [SEED]  climbs so many steps over who waits for whom at window 8, where all goes at once, and a fourth as
+#                                        many over the ranges of a request at window 256; both from the best of eight random beginnings
+#                                        and the attacks of the table. Prints the most that it found, and what those attacks cost
+# It wants gcc, valgrind, python3, and the library (bindings/build.sh). ARCHIVE=FILE takes another archive, JOBS=4 runs four at a time,
+# and WINDOWS=256 has a table of that window alone.
 set -eu
 here=$(cd "$(dirname "$0")" && pwd)
 work=$(mktemp -d)
@@ -17,7 +18,7 @@ archive=${ARCHIVE:-$here/../bindings/out/libjolunza.a}
 [ -e "$archive" ] || "$here/../bindings/build.sh" > /dev/null
 gcc -std=c11 -O2 -Wall -Wextra -Werror -pedantic -o "$work/attack" "$here/attack.c" "$archive"
 python3 - "$work/attack" "${JOBS:-2}" "$@" <<'END'
-import concurrent.futures, random, re, subprocess, sys
+import concurrent.futures, os, random, re, subprocess, sys
 
 program, jobs, *words = sys.argv[1:]
 OTHERS = 63
@@ -48,7 +49,7 @@ def print_row(instructions, said):
 
 def table(names):
     print("attack              W bytes refused    instructions deliv. out  bytes before      bytes      a byte  of all")
-    runs = [pool.submit(counted, [name, window]) for window in ("64", "256") for name in names]
+    runs = [pool.submit(counted, [name, window]) for window in os.environ.get("WINDOWS", "64 256").split() for name in names]
     for run in runs:
         print_row(*run.result())
 
@@ -105,9 +106,24 @@ def cost_of_pattern(pattern):
     return counted(["mask", "8"], text)
 
 
-def climb(chance, steps, first, other, cost):
-    """The most that so many steps of four tries each find, from the best of eight random beginnings."""
-    begins = [first(chance) for _ in range(8)]
+def known_ranges():
+    """The request of the table: 31 ranges of which nothing is kept, and one of 64 numbers that are."""
+    return [[(0, 0)] * 31 + [(194, 63)]]
+
+
+def known_patterns():
+    """The star, the chain and the ladder of the table."""
+    order = list(range(OTHERS))
+    half = OTHERS // 2
+    return [
+        (order, [[False] * OTHERS for _ in order]),
+        (order, [[True] * OTHERS for _ in order]),
+        (order, [[k > j if j < half else k < j for k in order] for j in order]),
+    ]
+
+
+def climb(chance, steps, begins, other, cost):
+    """The most that so many steps of four tries each find, from the best of these beginnings."""
     best, found = max(zip(pool.map(cost, begins), begins), key=lambda one: one[0][0])
     for _ in range(steps):
         tries = [other(chance, found) for _ in range(4)]
@@ -118,11 +134,14 @@ def climb(chance, steps, first, other, cost):
 
 
 def search(steps, seed):
-    best, found = climb(random.Random(seed), steps, random_ranges, other_ranges, cost_of_ranges)
+    chance = random.Random(seed)
+    begins = [random_ranges(chance) for _ in range(8)] + known_ranges()
+    best, found = climb(chance, steps // 4, begins, other_ranges, cost_of_ranges)
     print_row(*best)
     print("  skips and extras:", *found)
-    print_row(*counted(["request", "256"]))
-    best, found = climb(random.Random(seed), steps, random_pattern, other_pattern, cost_of_pattern)
+    print_row(*cost_of_ranges(known_ranges()[0]))
+    begins = [random_pattern(chance) for _ in range(8)] + known_patterns()
+    best, found = climb(chance, steps, begins, other_pattern, cost_of_pattern)
     print_row(*best)
     print("  order:", *found[0])
     for j, row in enumerate(found[1]):

@@ -14,5 +14,5 @@ cat > "$work/rows" << 'END'
 2 a tick with a seat that was split off
 3 close
 END
-name_rows 100 124 125 126 127 128 129 130 131 141 142 145 146 147 148 149 150 151 152 153 >> "$work/rows"
+name_rows 100 122 124 125 126 127 128 129 130 131 141 142 145 146 147 148 149 150 151 152 153 >> "$work/rows"
 count_rows < "$work/rows"

@@ -42,7 +42,7 @@ below() {
 # run_cases CRATE NTH STEPS: tries the crate on each file of $work/cases, with this growth refused in each run
 run_cases() {
     local crate=$work/whole/crates/$1
-    (cd "$crate" && rt try --steps "$3" --fail-alloc "$2" --cases "$work/cases") > "$work/shown" 2>&1 || {
+    (cd "$crate" && rt try --steps "$3" --seconds 900 --fail-alloc "$2" --cases "$work/cases") > "$work/shown" 2>&1 || {
         tail -n 40 "$work/shown"
         exit 1
     }

@@ -8,7 +8,7 @@ import sys
 TOP = pathlib.Path(__file__).resolve().parent.parent.parent
 
 # the calls of member.c and the steps of group.c, by the byte that asks for them
-CAST, BURST, TICK, HELP, RAW = 0, 1, 2, 3, 4
+CAST, BURST, TICK, HELP, RAW, LOAD, ONE_PART, SELDOM = 0, 1, 2, 3, 4, 5, 8, 10
 GROUP_CAST, GROUP_BURST, GROUP_ARRIVE, GROUP_TICK, GROUP_HELP = 0, 2, 3, 10, 12
 HONEST = 0
 BYTES_OF_ENDS = 16  # how many bytes stand behind a stream
@@ -111,9 +111,16 @@ def schedules_as_inputs():
             yield "group", group_lead(first, limit_byte, trust) + steps
 
 
+def loaded_without_memory():
+    """A request that was answered comes again, loaded, and is refused memory: its first allocation, or all. No other seed has that."""
+    cast_and_request = member_call(["cast", "-"]) + raw(bytes.fromhex("13070002010000"))
+    for refused in [0, 1]:
+        yield "member", settings(3, 4, 2, 1000) + cast_and_request + bytes([LOAD, 1, 1, SELDOM, 2, refused, ONE_PART, 0])
+
+
 def main():
     folder = pathlib.Path(sys.argv[1])
-    for number, (target, text) in enumerate([*examples_as_inputs(), *schedules_as_inputs()]):
+    for number, (target, text) in enumerate([*examples_as_inputs(), *schedules_as_inputs(), *loaded_without_memory()]):
         (folder / target).mkdir(parents=True, exist_ok=True)
         (folder / target / f"seed-{number:03}").write_bytes(text)
 
