@@ -2,7 +2,6 @@
 
 ghost use Rattle.std.specs.Prelude.{◌≡◌};
 
-mod greeter;
 mod places;
 mod tcp;
 mod udp;

@@ -26,9 +26,19 @@ pub fn free<R: Net + Abort>(rt: &R, alloc: Global, count: u32) -> Vec<SocketAddr
     free
 }
 
+/// The address of a member.
+pub fn at(rt: &impl Abort, addresses: &[SocketAddr], member: usize) -> SocketAddr {
+    *addresses.get(member).expect(rt, "an address")
+}
+
+/// How many members have these addresses.
+pub fn size_of(rt: &impl Abort, addresses: &[SocketAddr]) -> u32 {
+    u32::try_from(addresses.len()).expect(rt, "few addresses")
+}
+
 /// The addresses as member `me` uses them.
 pub fn peers_of(rt: &impl Abort, alloc: Global, me: u32, addresses: &[SocketAddr]) -> Peers {
-    Peers::new(alloc, addresses.len() as u32, me, addresses).expect(rt, "peers")
+    Peers::new(alloc, size_of(rt, addresses), me, addresses).expect(rt, "peers")
 }
 
 pub fn frame(to: Option<u32>, text: &'static str) -> Outgoing {

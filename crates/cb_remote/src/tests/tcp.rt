@@ -2,7 +2,7 @@
 
 ghost use Rattle.std.specs.Prelude.{◌≡◌};
 
-use super::places::{free, peers_of};
+use super::places::{at, free, peers_of, size_of};
 use crate::{Disagreement, MakeFault, Refusal, TcpPeerInlet, TcpPeerOutlet, TcpPeers};
 use bytes::Bytes;
 use cb_history::{Group, Outgoing};
@@ -37,7 +37,7 @@ fn link<'a, R: Net + Abort>(
     addresses: &[SocketAddr],
     number: u32,
 ) -> Link<'a, R> {
-    let group = Group::new(number, addresses.len() as u32, 8).expect(rt, "a group");
+    let group = Group::new(number, size_of(rt, addresses), 8).expect(rt, "a group");
     link_in(rt, alloc, me, addresses, group)
 }
 
@@ -222,7 +222,8 @@ fn two_windows_are_named_at_both_ends(rt: HostRuntime) {
 fn two_sizes_are_named_at_both_ends(rt: HostRuntime) {
     let addresses = free(&rt, rt.alloc(), 3);
     let (mut of_0, first) = link(&rt, rt.alloc(), 0, &addresses, 7);
-    let (mut of_1, second) = link(&rt, rt.alloc(), 1, &addresses[..2], 7);
+    let two = [at(&rt, &addresses, 0), at(&rt, &addresses, 1)];
+    let (mut of_1, second) = link(&rt, rt.alloc(), 1, &two, 7);
     refuse(&rt, &mut of_0, &mut of_1, Disagreement::Size);
     drop(first);
     drop(second);
@@ -300,7 +301,7 @@ fn stranger<R: Net<Stream = TcpStream> + Wait + Clock + Abort>(
 ) {
     let addresses = free(rt, alloc, 2);
     let (mut of_1, second) = link(rt, alloc, 1, &addresses, 7);
-    let mut stream = TcpStream::connect(rt, addresses[1]).expect(rt, "a connection");
+    let mut stream = TcpStream::connect(rt, at(rt, &addresses, 1)).expect(rt, "a connection");
     assert!(rt; stream.write_all(text).is_ok());
     for _turn in 0..20u32 {
         assert!(rt; of_1.receive_within(rt, a_while()) == Ok(Received::Nothing));
@@ -334,7 +335,7 @@ fn silent_strangers_keep_nobody_out(rt: HostRuntime) {
     let (mut of_1, second) = link(&rt, rt.alloc(), 1, &addresses, 7);
     let mut strangers = Vec::new(rt.alloc());
     for _stranger in 0..100u32 {
-        let stream = TcpStream::connect(&rt, addresses[1]).expect(&rt, "a connection");
+        let stream = TcpStream::connect(&rt, at(&rt, &addresses, 1)).expect(&rt, "a connection");
         strangers.push(stream).expect(&rt, "memory");
         is_quiet(&rt, &mut of_1);
     }

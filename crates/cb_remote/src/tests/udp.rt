@@ -2,7 +2,7 @@
 
 ghost use Rattle.std.specs.Prelude.{◌≡◌};
 
-use super::places::{come, frame, free, is_quiet, peers_of, sends};
+use super::places::{at, come, frame, free, is_quiet, peers_of, sends};
 use crate::{MakeFault, UdpPeerInlet, UdpPeerOutlet, UdpPeers};
 use cb_links::{Inlet, LinkFault, Outlet, Received, WaitingInlet};
 use std::alloc::Global;
@@ -56,7 +56,7 @@ fn a_strangers_datagram_is_dropped_and_counted(rt: HostRuntime) {
     let (mut of_0, first) = link(&rt, rt.alloc(), 0, &addresses);
     let (of_1, mut second) = link(&rt, rt.alloc(), 1, &addresses);
     let stranger = UdpSocket::bind(&rt, "127.0.0.1:0").expect(&rt, "a socket");
-    assert!(&rt; stranger.send_to(b"hostile", addresses[0]).is_ok());
+    assert!(&rt; stranger.send_to(b"hostile", at(&rt, &addresses, 0)).is_ok());
     sends(&rt, &mut second, None, "honest");
     come(&rt, &mut of_0, &["honest"]);
     assert_eq!(&rt; of_0.strangers(), 1);
@@ -72,7 +72,7 @@ fn frames_behind_many_strangers_are_found(rt: HostRuntime) {
     let (of_1, mut second) = link(&rt, rt.alloc(), 1, &addresses);
     let stranger = UdpSocket::bind(&rt, "127.0.0.1:0").expect(&rt, "a socket");
     for _datagram in 0..150u32 {
-        assert!(&rt; stranger.send_to(b"hostile", addresses[0]).is_ok());
+        assert!(&rt; stranger.send_to(b"hostile", at(&rt, &addresses, 0)).is_ok());
     }
     sends(&rt, &mut second, None, "honest");
     come(&rt, &mut of_0, &["honest"]);
