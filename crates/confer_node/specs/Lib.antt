@@ -1,0 +1,4 @@
+-- One member of a group in a process of its own.
+pub mod Statuses
+pub mod Shown
+pub mod Ending

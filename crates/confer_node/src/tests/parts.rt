@@ -1,0 +1,170 @@
+//! When a run ends, and with which status.
+
+use crate::ending::{Ended, Ending, LINGER, Standing, is_settled};
+use crate::fault::Fault;
+use crate::run::report;
+use crate::words::{LinkKind, order_of};
+use cb_member::{CastRefusal, Group, Member};
+use cb_node::{NodeCastFault, TurnFault};
+use cb_remote::MakeFault;
+use confer_text::LinesFault;
+use std::alloc::Global;
+use std::process::Abort;
+use std::time::Duration;
+
+fn at(seconds: u64, is_done: bool, entries: usize) -> Standing {
+    Standing {
+        now: Duration::from_secs(100 + seconds),
+        is_done,
+        entries,
+    }
+}
+
+#[test]
+fn it_lingers_before_it_ends(rt: HostRuntime) {
+    let mut ending = Ending::new(None);
+    assert_eq!(&rt; ending.look(at(0, false, 4)), None);
+    assert_eq!(&rt; ending.look(at(9, true, 5)), None);
+    assert_eq!(&rt; ending.look(at(9 + LINGER - 1, true, 5)), None);
+    assert_eq!(&rt; ending.look(at(9 + LINGER, true, 5)), Some(Ended::Stable));
+}
+
+#[test]
+fn what_comes_begins_the_wait_anew(rt: HostRuntime) {
+    let mut ending = Ending::new(None);
+    assert_eq!(&rt; ending.look(at(0, true, 5)), None);
+    assert_eq!(&rt; ending.look(at(LINGER, true, 6)), None);
+    assert_eq!(&rt; ending.look(at(LINGER + 1, false, 6)), None);
+    assert_eq!(&rt; ending.look(at(LINGER + 2, true, 6)), None);
+    assert_eq!(&rt;
+        ending.look(at(2 * LINGER + 2, true, 6)),
+        Some(Ended::Stable)
+    );
+}
+
+#[test]
+fn the_time_that_is_given_ends_it(rt: HostRuntime) {
+    let mut ending = Ending::new(Some(Duration::from_secs(3)));
+    assert_eq!(&rt; ending.look(at(0, false, 4)), None);
+    assert_eq!(&rt; ending.look(at(2, true, 5)), None);
+    assert_eq!(&rt; ending.look(at(3, true, 6)), Some(Ended::TimeOver));
+    let mut at_once = Ending::new(Some(Duration::ZERO));
+    assert_eq!(&rt; at_once.look(at(0, true, 4)), Some(Ended::TimeOver));
+}
+
+/// Its own cast is delivered here and known to nobody.
+#[test]
+fn what_nobody_has_is_not_settled(rt: HostRuntime) {
+    let group = Group::new(7, 2, 4).expect(&rt, "a group");
+    let mut member = Member::new(rt.alloc(), group, 1, 9).expect(&rt, "a member");
+    assert!(&rt; is_settled(&member));
+    drop(member.cast(b"hi").expect(&rt, "a cast"));
+    assert!(&rt; !is_settled(&member));
+}
+
+#[test]
+fn each_fault_has_its_status(rt: HostRuntime) {
+    assert_eq!(&rt; Ended::Stable.status(), 0);
+    assert_eq!(&rt; Ended::TimeOver.status(), 1);
+    assert_eq!(&rt; Fault::NoMember.status(), 2);
+    assert_eq!(&rt; Fault::Link(MakeFault::BadAddresses).status(), 2);
+    assert_eq!(&rt; Fault::Link(MakeFault::AddressInUse).status(), 3);
+    assert_eq!(&rt; Fault::Lines(LinesFault::Read).status(), 3);
+    assert_eq!(&rt; Fault::Turn(TurnFault::HistoryFull).status(), 3);
+    assert_eq!(&rt; Fault::Turn(TurnFault::NoMemory).status(), 5);
+    let refused = NodeCastFault::Refused(CastRefusal::NoMemory);
+    assert_eq!(&rt; Fault::Cast(refused).status(), 5);
+}
+
+#[test]
+fn what_ends_it_is_said(rt: HostRuntime) {
+    let mut said = Vec::new(rt.alloc());
+    assert_eq!(&rt; report(&Fault::Link(MakeFault::AddressInUse), &mut said), 3);
+    assert!(&rt; said.as_slice() == b"confer_node: no link: AddressInUse\n");
+    drop(said);
+}
+
+/// What words are refused with, if they are.
+fn status_of(alloc: Global, words: &[&str]) -> u8 {
+    match order_of(alloc, words) {
+        Ok(order) => {
+            drop(order);
+            0
+        }
+        Err(fault) => fault.status(),
+    }
+}
+
+const HERE: &str = "127.0.0.1:4710";
+
+const THERE: &str = "127.0.0.1:4711";
+
+#[test]
+fn words_order_a_member(rt: HostRuntime) {
+    let words = [
+        "confer_node",
+        "--me",
+        "1",
+        "--group",
+        "7",
+        "--peer",
+        HERE,
+        "--peer",
+        THERE,
+        "--link",
+        "tcp",
+        "--trace",
+        "file",
+        "--for",
+        "5",
+    ];
+    let order = order_of(rt.alloc(), &words).expect(&rt, "an order");
+    assert_eq!(&rt; order.me, 1);
+    assert_eq!(&rt; order.group.number(), 7);
+    assert_eq!(&rt; order.group.size(), 2);
+    assert_eq!(&rt; order.group.window(), 16);
+    assert_eq!(&rt; order.link, LinkKind::Tcp);
+    assert_eq!(&rt; order.trace, Some("file"));
+    assert_eq!(&rt; order.patience, Some(Duration::from_secs(5)));
+    drop(order);
+}
+
+#[test]
+fn words_that_name_no_member_are_refused(rt: HostRuntime) {
+    let alloc = rt.alloc();
+    let few: &[&str] = &["confer_node", "--me", "0", "--group", "7", "--peer", HERE];
+    let above: &[&str] = &[
+        "confer_node",
+        "--me",
+        "2",
+        "--group",
+        "7",
+        "--peer",
+        HERE,
+        "--peer",
+        THERE,
+    ];
+    let named: &[&str] = &[
+        "confer_node",
+        "--me",
+        "0",
+        "--group",
+        "7",
+        "--peer",
+        HERE,
+        "--peer",
+        "localhost:80",
+    ];
+    let less: &[&str] = &[
+        "confer_node",
+        "--group",
+        "7",
+        "--peer",
+        HERE,
+        "--peer",
+        THERE,
+    ];
+    for words in [few, above, named, less] {
+        assert_eq!(&rt; status_of(alloc, words), 2);
+    }
+}
