@@ -80,7 +80,7 @@ fn each_fault_has_its_status(rt: HostRuntime) {
 fn what_ends_it_is_said(rt: HostRuntime) {
     let mut said = Vec::new(rt.alloc());
     assert_eq!(&rt; report(&Fault::Link(MakeFault::AddressInUse), &mut said), 3);
-    assert!(&rt; said.as_slice() == b"confer_node: no link: AddressInUse\n");
+    assert!(&rt; said.as_slice() == b"confer_node: no link: AddressInUse\n".as_slice());
     drop(said);
 }
 

@@ -88,7 +88,7 @@ fn lines_are_cast_and_printed_as_far_as_the_window_goes(rt: HostRuntime) {
     let mut said = Vec::new(alloc);
     let ended = session.run(&rt, &mut printed, &mut said);
     assert!(&rt; matches!(ended, Ok(Ended::TimeOver)));
-    assert!(&rt; printed.as_slice() == b"0.1 \"hi\"\n0.2 x07\n");
+    assert!(&rt; printed.as_slice() == b"0.1 \"hi\"\n0.2 x07\n".as_slice());
     assert!(&rt; said.is_empty());
     let text = record_of(alloc, session.member()).expect(&rt, "memory");
     let journal = read_journal(alloc, &text).expect(&rt, "a journal");
@@ -110,8 +110,10 @@ fn a_line_that_is_too_long_is_said_and_left_out(rt: HostRuntime) {
     let mut said = Vec::new(alloc);
     let ended = session.run(&rt, &mut printed, &mut said);
     assert!(&rt; matches!(ended, Ok(Ended::TimeOver)));
-    assert!(&rt; printed.as_slice() == b"0.1 \"hi\"\n");
-    assert!(&rt; said.as_slice() == b"confer_node: a line of more than 1024 bytes is left out\n");
+    assert!(&rt; printed.as_slice() == b"0.1 \"hi\"\n".as_slice());
+    assert!(&rt;
+        said.as_slice() == b"confer_node: a line of more than 1024 bytes is left out\n".as_slice()
+    );
 }
 
 #[test]
