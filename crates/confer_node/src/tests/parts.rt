@@ -14,7 +14,7 @@ use std::time::Duration;
 
 fn at(seconds: u64, is_done: bool, entries: usize) -> Standing {
     Standing {
-        now: Duration::from_secs(100 + seconds),
+        now: Duration::from_secs(seconds.saturating_add(100)),
         is_done,
         entries,
     }
