@@ -1,11 +1,12 @@
 #!/usr/bin/env bash
 # Runs confer_node, a member for each process. Three talk over TCP, one is killed, and all three begin anew under another group number
-# and end well; three talk over UDP; two talk over a line of 20 milliseconds that loses 10 of 100 packets (skipped where the machine
-# has no `ip netns` or no `tc netem`, or where root is not at work). Each time every screen has every line once, and the joined trace
-# is a run for `confer audit`. Then eight idle members are to take less than 1 % of a processor for a minute. The last line is
-# `N passed, M failed`.
+# and end well; three talk over UDP; three talk through a relay (`relay.py`) that holds all for 20 milliseconds, loses 10 of 100
+# datagrams, repeats and exchanges some, and cuts connections over TCP; two talk over a line of the kernel's that is as slow and loses
+# as many (skipped where the machine has no `ip netns` or no `tc netem`, or where root is not at work). Each time every screen has every
+# line once, and the joined trace is a run for `confer audit`. Then eight idle members are to take less than 1 % of a processor for a
+# minute. The last line is `N passed, M failed`.
 # It wants python3 and the proved programs, which it makes where they are not there: `rt run` in crates/confer_node and crates/confer.
-# NODE=FILE and CONFER=FILE name other builds. KEEP=FOLDER keeps all that was written. It takes two minutes.
+# NODE=FILE and CONFER=FILE name other builds. KEEP=FOLDER keeps all that was written. It takes two to three minutes.
 set -u
 top=$(cd "$(dirname "$0")/.." && pwd)
 node=${NODE:-$top/crates/confer_node/out/confer_node}
@@ -14,11 +15,11 @@ confer=${CONFER:-$top/crates/confer/out/confer}
 [ -x "$confer" ] || (cd "$top/crates/confer" && rt run -- expand --group 7 --size 3 < stdin > /dev/null)
 [ -x "$node" ] && [ -x "$confer" ] || { echo "no program"; exit 1; }
 work=$(mktemp -d)
-passed=0 failed=0 pids=() spaces=()
+passed=0 failed=0 pids=() spaces=() relay=
 
 ended() {
     local each
-    for each in "${pids[@]}"; do kill -9 "$each" 2> /dev/null; done
+    for each in "${pids[@]}" $relay; do kill -9 "$each" 2> /dev/null; done
     for each in "${spaces[@]}"; do ip netns del "$each" 2> /dev/null; done
     [ -z "${KEEP:-}" ] || cp -r "$work/." "$KEEP"
     rm -rf "$work"
@@ -144,6 +145,60 @@ for i in 0 1 2; do
     begin "$i" "lines $i 20 0.05" --group 43 --link udp "${peers[@]}" --trace "journal.$i" --for 60
 done
 all_end_well UDP 3 20
+
+# ---- three through a relay that is slow and loses
+
+# begin_relay KIND PART..: a relay that ends by itself; line I + 1 of the file peers has the words for member I
+begin_relay() {
+    : > peers
+    rm -f counts
+    python3 "$top/checks/relay.py" "$1" 3 150 counts "${@:2}" > peers &
+    relay=$!
+    within 30 has_lines peers 3
+}
+has_lines() { [ "$(wc -l < "$1")" -ge "$2" ]; }
+end_relay() {
+    local its=$relay
+    relay=
+    kill "$its" && wait "$its"
+}
+# begin_relayed I LINES GROUP LINK SECONDS: member I, which casts so many lines
+begin_relayed() {
+    local words
+    read -r -a words <<< "$(sed -n "$(($1 + 1))p" peers)"
+    begin "$1" "lines $1 $2 0.02" --group "$3" --link "$4" "${words[@]}" --trace "journal.$1" --for "$5"
+}
+# counted NAME LEAST: the relay did that so often at least
+counted() { awk -v name="$1" -v least="$2" '$1 == name { found = $2 } END { exit !(found >= least) }' counts; }
+
+for link in udp tcp; do
+    check "relayed, $link: the relay is there" begin_relay "$link"
+    for i in 0 1 2; do
+        begin_relayed "$i" 40 46 "$link" 60
+    done
+    all_end_well "relayed, $link" 3 40
+    check "relayed, $link: the relay ends" end_relay
+    echo "the relay, $link: $(tr '\n' ' ' < counts)"
+    if [ "$link" = udp ]; then
+        check 'relayed, udp: datagrams were lost' counted dropped 10
+        check 'relayed, udp: datagrams were repeated' counted repeated 2
+        check 'relayed, udp: datagrams were overtaken' counted overtaken 1
+    else
+        check 'relayed, tcp: connections were cut' counted cut 3
+        check 'relayed, tcp: they were made again' counted made 6
+        check 'relayed, tcp: bytes under way were lost' counted lost 1
+    fi
+done
+# nothing comes through, and the members say so; the lines are fewer than the window is wide, so that all are read
+check 'a relay that loses all is there' begin_relay udp lose=100
+for i in 0 1 2; do
+    begin_relayed "$i" 10 47 udp 2
+done
+for i in 0 1 2; do
+    check "a line that loses all: member $i says that it waits" eval "! ends_well $i > wrong && grep -q 'ended with 1:' wrong"
+done
+check 'a line that loses all: nothing came' eval '! grep -qv "^0" screen.0'
+check 'the relay that loses all ends' end_relay
 
 # ---- two over a line that is slow and loses packets
 
