@@ -73,11 +73,13 @@ refuse_each() {
 }
 
 # name_rows NUMBER..: these rows of refused/plays.txt with their names; from 200 on they are those of a member without
-# history
+# history, and below 100 those of one whose caller keeps events and entries
 name_rows() {
     local number names=$top/checks/refused/names
     for number in "$@"; do
-        if [ "$number" -lt 200 ]; then
+        if [ "$number" -lt 100 ]; then
+            sed -n "s/^$((number + 99)) \(.*\)/$number \1, without history, for a caller who keeps events/p" "$names"
+        elif [ "$number" -lt 200 ]; then
             grep "^$number " "$names"
         else
             sed -n "s/^$((number - 100)) \(.*\)/$number \1, without history/p" "$names"
