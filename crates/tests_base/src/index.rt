@@ -428,13 +428,14 @@ fn left_waiting(
     waits
 }
 
-fn waits_for_member_0(rt: &impl Abort, alloc: Global, sender: u32) -> Message
+/// The sender's first message, which waits for so many of member 0.
+fn waits_for_member_0(rt: &impl Abort, alloc: Global, sender: u32, count: u32) -> Message
     requires { sender < 64 }
     ensures sender { result.name.sender ≡ sender }
     ensures group { IsOfGroup 64 result }
 {
     let mut time = VectorTime::zero(alloc, 64).expect(rt, "memory");
-    time.set(0, 1);
+    time.set(0, count);
     time.set(sender, 1);
     Message {
         name: Name { sender, number: 1 },
@@ -449,7 +450,18 @@ fn all_wait_for_member_0(rt: &impl Abort, alloc: Global) -> DelayQueue
 {
     let mut queue = DelayQueue::new(alloc, 64, 1).expect(rt, "memory");
     for sender in 2..64 {
-        hold_first(&mut queue, waits_for_member_0(rt, alloc, sender));
+        hold_first(&mut queue, waits_for_member_0(rt, alloc, sender, 1));
+    }
+    queue
+}
+
+/// Of each member k from 1 on the first message waits for k messages of member 0.
+fn each_waits_for_its_own_count(rt: &impl Abort, alloc: Global) -> DelayQueue
+    ensures { result.size ≡ 64 }
+{
+    let mut queue = DelayQueue::new(alloc, 64, 1).expect(rt, "memory");
+    for sender in 1..64 {
+        hold_first(&mut queue, waits_for_member_0(rt, alloc, sender, sender));
     }
     queue
 }
@@ -483,6 +495,47 @@ fn a_queue_looks_at_those_alone_that_an_answer_may_have_changed(rt: HostRuntime)
     ] {
         same(&rt, found, expected);
     }
+}
+
+/// Whether the queue finds by one look that member k's message is ready once k of member 0 are delivered. It is delivered too.
+fn finds_by_one_look(queue: &mut DelayQueue, now: &mut VectorTime, k: u32) -> bool
+    requires queue { queue.old.size ≡ 64 }
+    requires now { length now.old ≡ 64 }
+    requires member { k < 64 }
+    ensures queue { queue.new.size ≡ 64 }
+    ensures now { length now.new ≡ 64 }
+{
+    let before = queue.looked();
+    now.set(0, k);
+    let ready = queue.next_ready(now);
+    drop(queue.release(k));
+    now.set(k, 1);
+    ready == Some(k) && queue.looked().checked_sub(before) == Some(1)
+}
+
+/// Of how many members it does so, member 0's count growing by one each time.
+fn found_by_one_look(rt: &impl Abort, alloc: Global, queue: &mut DelayQueue) -> u32
+    requires { queue.old.size ≡ 64 }
+{
+    let mut now = VectorTime::zero(alloc, 64).expect(rt, "memory");
+    let mut found: u32 = 0;
+    for k in 1..64 {
+        let is_so = finds_by_one_look(queue, &mut now, k);
+        found = found.saturating_add(u32::from(is_so));
+    }
+    drop(now);
+    found
+}
+
+#[test]
+fn each_count_that_is_reached_costs_one_look(rt: HostRuntime) {
+    let alloc = rt.alloc();
+    let mut queue = each_waits_for_its_own_count(&rt, alloc);
+    let first = asked(&rt, alloc, &mut queue, 0, 0);
+    let found = found_by_one_look(&rt, alloc, &mut queue);
+    drop(queue);
+    same(&rt, first, (None, 63));
+    same(&rt, found, 63);
 }
 
 #[test]

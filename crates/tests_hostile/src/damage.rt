@@ -54,6 +54,14 @@ const FRESH_OF_5: Receiver = Receiver {
     before: &[],
 };
 
+/// Who would have sent the frames of five members.
+const SENDER_OF_5: Receiver = Receiver {
+    number: 300,
+    size: 5,
+    me: 2,
+    before: &[],
+};
+
 const FRESH_OF_64: Receiver = Receiver {
     number: 4_294_967_295,
     size: 64,
@@ -89,6 +97,25 @@ const STATUSES: &[Case] = &[
     (FRESH, &[(1, b"\x13\x07\x02\x00\x01\x01\x01")]),
     (
         FRESH_OF_5,
+        &[(
+            1,
+            b"\x12\xac\x02\x02\x04\x00\xcb\x01\x00\x01\x00\x02\x01\x02",
+        )],
+    ),
+];
+
+/// What comes to a member as its own: two casts that it did not make, and a status that it did not send.
+const OWN: &[Case] = &[
+    (
+        SENDER_OF_5,
+        &[(1, b"\x11\xac\x02\x02\x01\x03\x00\x03\x00\x01\x02\x02\x00")],
+    ),
+    (
+        SENDER_OF_5,
+        &[(1, b"\x11\xac\x02\x02\x02\x01\x00\xc8\x01\x00")],
+    ),
+    (
+        SENDER_OF_5,
         &[(
             1,
             b"\x12\xac\x02\x02\x04\x00\xcb\x01\x00\x01\x00\x02\x01\x02",
@@ -240,6 +267,7 @@ fn add(rt: &impl Abort, text: &mut Vec<u8>, count: usize, part: &[u8]) {
 fn a_part_of_a_frame_is_short_and_a_byte_more_is_trailing(rt: HostRuntime) {
     are_whole_only(&rt, rt.alloc(), CASTS);
     are_whole_only(&rt, rt.alloc(), STATUSES);
+    are_whole_only(&rt, rt.alloc(), OWN);
     are_whole_only(&rt, rt.alloc(), OTHERS);
     are_whole_only(&rt, rt.alloc(), LONG);
 }
@@ -278,6 +306,11 @@ fn a_cast_with_another_byte_is_refused_or_stands_in_the_history(rt: HostRuntime)
 #[test]
 fn a_status_with_another_byte_is_refused_or_stands_in_the_history(rt: HostRuntime) {
     withstand(&rt, rt.alloc(), STATUSES, 1);
+}
+
+#[test]
+fn an_own_frame_with_another_byte_is_refused_or_stands_in_the_history(rt: HostRuntime) {
+    withstand(&rt, rt.alloc(), OWN, 1);
 }
 
 #[test]
