@@ -13,10 +13,10 @@ pub record ReadsOn (had has : Option (List ℕ)) (before after : List ℕ) : Typ
   pub parts : after ≡ before ++ bytes
   pub few : (bytes ≡ []) ⊎ (length after ≤ 28)
 
--- A hello was heard where its bytes came, and none is there before all of it has come.
+-- A hello was heard where its bytes came. None is there, and nothing disagrees, before as many have come.
 abbrev pub Hears : Option (List ℕ) → Option (List ℕ) → List ℕ → List ℕ → Result (Option Hello) GreetFault → Type 0
 Hears had has before after (Ok (Some hello)) = ReadsOn had has before after × (after ≡ hello_text hello)
 Hears had has before after (Ok None) = ReadsOn had has before after × (length after < 28)
-Hears had has before after (Err (faults.Disagrees why)) = ReadsOn had has before after × Reads after (Err why)
+Hears had has before after (Err (faults.Disagrees why)) = ReadsOn had has before after × (28 ≤ length after) × Reads after (Err why)
 Hears had has before after (Err faults.Gone) = Consumes had has [] × (after ≡ before)
 Hears had has before after (Err faults.NoMemory) = Unit {0}

@@ -2,6 +2,7 @@
 
 ghost use Rattle.std.specs.Prelude.{◌≡◌};
 
+mod hellos;
 mod places;
 mod tcp;
 mod udp;

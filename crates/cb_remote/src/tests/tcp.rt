@@ -15,22 +15,22 @@ use std::sync::Wait;
 use std::test::*;
 use std::time::{Clock, Duration};
 
-type Link<'a, R> = (TcpPeerInlet<&'a R>, TcpPeerOutlet);
+pub type Link<'a, R> = (TcpPeerInlet<&'a R>, TcpPeerOutlet);
 
 /// The frames of three casts: to all, and to each of two members.
-const ALL: &[u8] = b"\x11\x07\x00\x01\x00\x03all";
+pub const ALL: &[u8] = b"\x11\x07\x00\x01\x00\x03all";
 
 const ONE: &[u8] = b"\x11\x07\x00\x02\x00\x03one";
 
 const TWO: &[u8] = b"\x11\x07\x00\x03\x00\x03two";
 
 /// So long an inlet waits for something at most.
-fn a_while() -> Duration {
+pub fn a_while() -> Duration {
     Duration::from_millis(5)
 }
 
 /// The link of a member of the group of this number, with a window of 8.
-fn link<'a, R: Net + Abort>(
+pub fn link<'a, R: Net + Abort>(
     rt: &'a R,
     alloc: Global,
     me: u32,
@@ -41,7 +41,7 @@ fn link<'a, R: Net + Abort>(
     link_in(rt, alloc, me, addresses, group)
 }
 
-fn link_in<'a, R: Net + Abort>(
+pub fn link_in<'a, R: Net + Abort>(
     rt: &'a R,
     alloc: Global,
     me: u32,
@@ -108,7 +108,7 @@ fn refuse<R: Wait + Clock + Abort, N: Net + Drop>(
     assert!(rt; !caller.is_connected(1) && !called.is_connected(0));
 }
 
-fn sends<R: Wait + Abort>(
+pub fn sends<R: Wait + Abort>(
     rt: &R,
     outlet: &mut TcpPeerOutlet,
     to: Option<u32>,
@@ -136,7 +136,7 @@ fn next<R: Wait + Clock, N: Net + Drop>(
 }
 
 /// These frames come, in this order.
-fn come<R: Wait + Clock + Abort, N: Net + Drop>(
+pub fn come<R: Wait + Clock + Abort, N: Net + Drop>(
     rt: &R,
     inlet: &mut TcpPeerInlet<N>,
     expected: &[&'static [u8]],
