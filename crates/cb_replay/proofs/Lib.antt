@@ -1,1 +1,4 @@
+pub mod Adding
+pub mod CoreReplays
 pub mod Replays
+pub mod Returns

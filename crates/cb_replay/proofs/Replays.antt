@@ -20,7 +20,7 @@ same_name a b = (
   λ e. and_from (a.sender == b.sender) (a.number == b.number) (eq-eqb a.sender b.sender (ap (λ (x : Name). x.sender) e)) (eq-eqb a.number b.number (ap (λ (x : Name). x.number) e)),
 )
 
-parts_at : (entries : List Entry) (i : ℕ) (e : Entry) → i < length entries → e ≡ get_or entries i e → entries ≡ take i entries ++ e ∷ drop (suc i) entries
+pub parts_at : (entries : List Entry) (i : ℕ) (e : Entry) → i < length entries → e ≡ get_or entries i e → entries ≡ take i entries ++ e ∷ drop (suc i) entries
 parts_at [] i e lt is = absurd (omega (arith, lt))
 parts_at (x ∷ entries) zero e lt is = ap (λ (y : Entry). y ∷ entries) (sym is)
 parts_at (x ∷ entries) (suc i) e lt is = ap (λ (ys : List Entry). x ∷ ys) (parts_at entries i e (omega (arith, lt)) is)

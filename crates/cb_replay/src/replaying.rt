@@ -1,7 +1,6 @@
 //! A history is replayed by a member without entries, entry by entry.
 
-ghost use Rattle.std.specs.Prelude.{◌≡◌, [], IfOk, Some, map, option_map};
-ghost use Rattle.std.specs.Bool.{Decides};
+ghost use Rattle.std.specs.Prelude.{◌≡◌, [], IfOk, map};
 ghost use Rattle.cb_frames.specs.Fields.{One};
 ghost use Rattle.cb_history.specs.Facts.{entry_fields};
 ghost use Rattle.cb_history.specs.Legal.{ToCast, ToTake, ToTick};
@@ -11,10 +10,9 @@ ghost use Rattle.cb_replay.specs.Loads.{load_fields};
 ghost use Rattle.cb_replay.specs.Replaying.{HasRoom, SaysAdded, SaysReplayed};
 
 use crate::load::{Load, slices_of};
+use crate::same::{is_noted, is_same};
 use bytes::Bytes;
-use cb_member::{
-    ArriveRefusal, BurstRefusal, CastRefusal, Entry, Member, Name, NoMemory, TickRefusal,
-};
+use cb_member::{ArriveRefusal, BurstRefusal, CastRefusal, Entry, Member, NoMemory, TickRefusal};
 use std::alloc::{AllocError, Global};
 
 /// The number of the first entry, counted from 1, that this member does not add, called as the entries tell; `None` where it has them all
@@ -113,39 +111,4 @@ fn ticks(member: &mut Member, entry: &Entry) -> Result<bool, NoMemory>
         Err(TickRefusal::NoMemory) => Err(AllocError),
         Err(_refusal) => Ok(false),
     }
-}
-
-fn is_noted(noted: Option<Entry>, entry: &Entry) -> bool
-    ensures { Decides result (option_map entry_fields noted ≡ Some (entry_fields entry.now)) }
-{
-    match noted {
-        Some(noted) => is_same(&noted, entry),
-        None => false,
-    }
-}
-
-fn is_same(entry: &Entry, other: &Entry) -> bool
-    ensures { Decides result (entry_fields entry.now ≡ entry_fields other.now) }
-{
-    match (entry, other) {
-        (Entry::Cast { frame: a }, Entry::Cast { frame: b }) => a == b,
-        (Entry::Tick { status: a }, Entry::Tick { status: b }) => a == b,
-        (
-            Entry::Arrive {
-                frame: a,
-                delivered,
-            },
-            Entry::Arrive {
-                frame: b,
-                delivered: others,
-            },
-        ) => a == b && are_same_names(delivered, others),
-        _ => false,
-    }
-}
-
-fn are_same_names(names: &[Name], others: &[Name]) -> bool
-    ensures { Decides result (names.now ≡ others.now) }
-{
-    names == others
 }
