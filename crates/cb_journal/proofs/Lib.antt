@@ -5,3 +5,4 @@ pub mod Readings
 pub mod Bounds
 pub mod Beginnings
 mod Rows
+pub mod Keeping

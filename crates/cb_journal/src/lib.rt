@@ -3,7 +3,8 @@
 //!
 //! `JournalWriter` writes an entry and makes it outlast a crash before it answers. `read_journal` reads the bytes that are there
 //! after a crash at any moment: the entries of all whole lines. A last line that was not written to its end is left out; the next writer
-//! begins where the whole lines end.
+//! begins where the whole lines end. A `Keeper` is what a driver of a member hands each entry before anything is sent of it; a
+//! `JournalWriter` is one.
 //!
 //! Stands on `cb_history` for histories and on `cb_lines` for the lines, which are those of traces.
 #![tactic(auto)]
@@ -11,6 +12,7 @@
 mod device;
 mod fault;
 mod head;
+mod keeper;
 pub mod laws;
 mod reading;
 mod writing;
@@ -18,5 +20,6 @@ mod writing;
 pub use cb_history::{Entry, Group, History, Identity};
 pub use device::Device;
 pub use fault::{AppendFault, ReadFault};
+pub use keeper::{KeepFault, Keeper, NoJournal};
 pub use reading::{Journal, read_journal};
 pub use writing::JournalWriter;

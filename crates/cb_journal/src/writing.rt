@@ -8,7 +8,7 @@ ghost use Rattle.cb_history.specs.LegalHistory.{seat_in};
 ghost use Rattle.cb_lines.specs.Text.{entry_line, with_line_feed};
 ghost use Rattle.cb_journal.specs.Journal.{journal_text};
 ghost use Rattle.cb_journal.specs.Reading.{IsRead, entries_in};
-ghost use Rattle.cb_journal.specs.Writing.{KeepsFront, WritesPart};
+ghost use Rattle.cb_journal.specs.Writing.{HasJournal, KeepsFront, WritesPart};
 
 use crate::device::Device;
 use crate::fault::AppendFault;
@@ -42,6 +42,9 @@ impl<D: Device + Drop> JournalWriter<D> {
         ensures lasts { IfOk result (λ writer.
             Keeps (D.contents writer.device) (D.lasting writer.device)) }
         ensures sound { IfOk result (λ writer. writer.fault ≡ None) }
+        // It has the journal of no entry, which lasts.
+        ensures has { (bytes : List ℕ) → D.contents device ≡ Some bytes → IfOk result (λ writer.
+            HasJournal (D.contents writer.device) (D.lasting writer.device) writer.fault []) }
     {
         let mut device = device;
         let mut line = Vec::new(alloc);
@@ -68,6 +71,10 @@ impl<D: Device + Drop> JournalWriter<D> {
         ensures lasts { IfOk result (λ writer.
             Keeps (D.contents writer.device) (D.lasting writer.device)) }
         ensures sound { IfOk result (λ writer. writer.fault ≡ None) }
+        // It has the journal of the entries that were read, which lasts.
+        ensures has { (bytes : List ℕ) → D.contents device ≡ Some bytes → IsRead bytes journal.now
+            → IfOk result (λ writer. HasJournal (D.contents writer.device)
+            (D.lasting writer.device) writer.fault (entries_in journal.now)) }
     {
         let mut device = device;
         cut_to(&mut device, journal.read as u64)?;

@@ -1,0 +1,72 @@
+//! Where the entries of a member are kept before anything is sent of them.
+
+ghost use Rattle.std.specs.Prelude.{◌≡◌, ◌∷◌, ◌++◌, [], List, OnOk, Some};
+ghost use Rattle.cb_history.specs.Facts.{EntryFields, entry_fields};
+ghost use Rattle.cb_journal.specs.FaultText.{keep_fault_text};
+ghost use Rattle.cb_journal.specs.Writing.{HasJournal};
+
+use crate::device::Device;
+use crate::fault::AppendFault;
+use crate::writing::JournalWriter;
+use cb_history::Entry;
+use std::error::Error;
+use std::fmt;
+
+/// Why an entry was not kept.
+#[derive(Clone, Copy, Debug, PartialEq, Eq)]
+pub enum KeepFault {
+    /// What keeps the entries failed.
+    Device,
+    /// Out of memory.
+    NoMemory,
+}
+
+impl fmt::Display for KeepFault {
+    ghost output = { λ fault. Some (keep_fault_text fault) };
+
+    fn fmt<W: fmt::Write>(&self, f: &mut fmt::Formatter<W>) -> fmt::Result {
+        f.write_str(match self {
+            KeepFault::Device => "Device",
+            KeepFault::NoMemory => "NoMemory",
+        })
+    }
+}
+
+impl Error for KeepFault {}
+
+/// Where each entry goes before a frame of it is sent or an event of it is handed out.
+pub trait Keeper {
+    /// It has just these entries.
+    ghost has: { Self → List EntryFields → Type 0 };
+
+    /// Keeps one entry more. After a fault it is asked for nothing any more.
+    fn keep(&mut self, entry: &Entry) -> Result<(), KeepFault>
+        ensures { OnOk result ((entries : List EntryFields) → has self.old entries
+            → has self.new (entries ++ entry_fields entry.now ∷ [])) };
+}
+
+/// Keeps nothing: the member is gone with its process.
+#[derive(Clone, Copy, Debug, PartialEq, Eq)]
+pub struct NoJournal;
+
+impl Keeper for NoJournal {
+    ghost has = { λ _ _. Unit {0} };
+
+    fn keep(&mut self, _entry: &Entry) -> Result<(), KeepFault> {
+        Ok(())
+    }
+}
+
+/// A journal: each entry outlasts a crash before it is kept.
+impl<D: Device + Drop> Keeper for JournalWriter<D> {
+    ghost has = { λ w entries.
+        HasJournal (D.contents w.device) (D.lasting w.device) w.fault entries };
+
+    fn keep(&mut self, entry: &Entry) -> Result<(), KeepFault> {
+        match self.append(entry) {
+            Ok(()) => Ok(()),
+            Err(AppendFault::NoMemory) => Err(KeepFault::NoMemory),
+            Err(_) => Err(KeepFault::Device),
+        }
+    }
+}
