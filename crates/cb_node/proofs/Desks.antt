@@ -11,7 +11,7 @@ use Rattle.cb_history.specs.Legal.{Call, IsLegal, and_entry}
 use Rattle.cb_history.specs.State.{IsMemberState, MemberState, entry_by, events_in, state_after}
 use Rattle.cb_history.proofs.Prefixes.{prefix_is_legal}
 use Rattle.cb_node.specs.declared.desk.Desk.{Desk}
-use Rattle.cb_node.specs.declared.keeper.KeepFault.{KeepFault}
+use Rattle.cb_journal.specs.declared.keeper.KeepFault.{KeepFault}
 use Rattle.cb_node.specs.declared.refused.Refused.{Refused}
 use Rattle.cb_node.specs.Course.{Work}
 use Rattle.cb_node.specs.Desk.{IsDesk, IsEntering, and_noted, first_of, frames_in, state_in}

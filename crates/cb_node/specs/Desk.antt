@@ -12,7 +12,7 @@ use Rattle.cb_member.specs.Received.{HasTakenToSend}
 use Rattle.cb_node.specs.declared.desk.Desk.{Desk}
 use Rattle.cb_node.specs.declared.desk.NotTaken.{NotTaken}
 use Rattle.cb_node.specs.declared.desk.NotTaken.TheVariants as outcomes
-use Rattle.cb_node.specs.declared.keeper.KeepFault.{KeepFault}
+use Rattle.cb_journal.specs.declared.keeper.KeepFault.{KeepFault}
 use Rattle.cb_node.specs.Course.{MayRefuse, Work}
 use Rattle.cb_node.specs.Kept.{IsKeptState, KeptState}
 

@@ -1,18 +1,14 @@
 -- The texts of faults: their names.
 use Rattle.std.specs.Prelude.{ℕ, List, ◌++◌, codes}
 use Rattle.cb_history.specs.Refusals.{burst_refusal_text, cast_refusal_text}
-use Rattle.cb_node.specs.declared.keeper.KeepFault.{KeepFault}
-use Rattle.cb_node.specs.declared.keeper.KeepFault.TheVariants as keeping
+use Rattle.cb_journal.specs.declared.keeper.KeepFault.{KeepFault}
+use Rattle.cb_journal.specs.FaultText.{keep_fault_text}
 use Rattle.cb_node.specs.declared.fault.NodeCastFault.{NodeCastFault}
 use Rattle.cb_node.specs.declared.fault.NodeCastFault.TheVariants as casts
 use Rattle.cb_node.specs.declared.fault.NodeBurstFault.{NodeBurstFault}
 use Rattle.cb_node.specs.declared.fault.NodeBurstFault.TheVariants as bursts
 use Rattle.cb_node.specs.declared.fault.TurnFault.{TurnFault}
 use Rattle.cb_node.specs.declared.fault.TurnFault.TheVariants as turns
-
-abbrev pub keep_fault_text : KeepFault → List ℕ
-keep_fault_text keeping.Device = codes "Device"
-keep_fault_text keeping.NoMemory = codes "NoMemory"
 
 abbrev pub not_kept_text : KeepFault → List ℕ
 not_kept_text fault = codes "NotKept(" ++ keep_fault_text fault ++ codes ")"

@@ -14,7 +14,7 @@ use Rattle.cb_node.specs.declared.fault.NodeBurstFault.{NodeBurstFault}
 use Rattle.cb_node.specs.declared.fault.NodeBurstFault.TheVariants as burstings
 use Rattle.cb_node.specs.declared.fault.NodeCastFault.{NodeCastFault}
 use Rattle.cb_node.specs.declared.fault.NodeCastFault.TheVariants as castings
-use Rattle.cb_node.specs.declared.keeper.KeepFault.{KeepFault}
+use Rattle.cb_journal.specs.declared.keeper.KeepFault.{KeepFault}
 use Rattle.cb_node.specs.declared.named.Named.{Named}
 use Rattle.cb_node.specs.declared.refused.Refused.{Refused}
 use Rattle.cb_node.specs.Course.{Work, to_all}

@@ -13,10 +13,10 @@ ghost use Rattle.cb_node.specs.Kept.{HasNamedBurst, HasNamedCast, KeepsUp, Refus
 ghost use Rattle.cb_node.specs.Refusing.{none_refused};
 
 use crate::fault::{NodeBurstFault, NodeCastFault, TurnFault};
-use crate::keeper::{KeepFault, Keeper};
 use crate::named::Named;
 use crate::refused::Refused;
 use bytes::Bytes;
+use cb_journal::{KeepFault, Keeper};
 use cb_member::{
     ArriveRefusal, BurstDone, BurstRefusal, CastDone, CastRefusal, Entry, HelpFault, Member,
     NoMemory, Outgoing, TickRefusal, Ticked,
@@ -326,7 +326,8 @@ impl Desk {
     }
 }
 
-fn for_all(bytes: Bytes) -> Outgoing
+/// A frame that goes to all others.
+pub fn for_all(bytes: Bytes) -> Outgoing
     ensures { result ≡ to_all bytes }
 {
     Outgoing { to: None, bytes }

@@ -5,7 +5,7 @@ ghost use Rattle.cb_node.specs.FaultText.{burst_fault_text, cast_fault_text, tur
 ghost use Rattle.cb_node.specs.declared.fault.NodeCastFault.TheVariants.{NotKept as CastNotKept, Refused as CastRefused};
 ghost use Rattle.cb_node.specs.declared.fault.NodeBurstFault.TheVariants.{NotKept as BurstNotKept, Refused as BurstRefused};
 
-use crate::keeper::KeepFault;
+use cb_journal::KeepFault;
 use cb_member::{BurstRefusal, CastRefusal};
 use std::error::Error;
 use std::fmt;

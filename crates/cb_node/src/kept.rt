@@ -10,10 +10,10 @@ ghost use Rattle.cb_node.specs.Refusing.{none_refused};
 
 use crate::desk::Desk;
 use crate::fault::{NodeBurstFault, NodeCastFault, TurnFault};
-use crate::keeper::Keeper;
 use crate::named::Named;
 use crate::refused::Refused;
 use bytes::Bytes;
+use cb_journal::Keeper;
 use cb_member::{Member, Outgoing};
 use std::alloc::Global;
 use std::marker::Model;

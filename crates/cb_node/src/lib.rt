@@ -12,25 +12,25 @@
 mod desk;
 mod ends;
 mod fault;
-mod keeper;
 mod kept;
 mod named;
 mod node;
 mod pace;
 mod refused;
 
+pub use cb_journal::{KeepFault, Keeper, NoJournal};
 pub use cb_links::{Inlet, LinkFault, Outlet, Received, Unsent, WaitingInlet};
 pub use cb_member::{
     ArriveRefusal, BurstRefusal, CastRefusal, Entry, Event, Group, History, Identity, Member,
     Message, Name, NewFault, VectorTime,
 };
-pub use ends::Counts;
+pub use desk::for_all;
+pub use ends::{Counts, Ends};
 pub use fault::{NodeBurstFault, NodeCastFault, TurnFault};
-pub use keeper::{KeepFault, Keeper, NoJournal};
 pub use kept::KeptMember;
 pub use named::Named;
-pub use node::Node;
-pub use pace::{BadBounds, Bounds};
+pub use node::{MOST_FRAMES, Node, now, shorter};
+pub use pace::{BadBounds, Bounds, Pacing};
 pub use refused::Refused;
 
 #[cfg(test)]

@@ -1,6 +1,6 @@
 //! A member with its link and its pace.
 
-ghost use Rattle.std.specs.Prelude.{◌≡◌, ◌≤◌, IfErr, IfOk, OnErr, OnOk, None, []};
+ghost use Rattle.std.specs.Prelude.{◌≡◌, ◌≤◌, IfErr, IfOk, OnErr, OnOk, None, [], length};
 ghost use Rattle.cb_frames.specs.Fields.{One};
 ghost use Rattle.cb_history.specs.Load.{many_of};
 ghost use Rattle.cb_history.specs.State.{events_in};
@@ -10,11 +10,11 @@ ghost use Rattle.cb_node.specs.Turning.{HasGone, HasTurned, between, none_counte
 
 use crate::ends::{Counts, Ends};
 use crate::fault::{NodeBurstFault, NodeCastFault, TurnFault};
-use crate::keeper::Keeper;
 use crate::kept::KeptMember;
 use crate::named::Named;
 use crate::pace::{Bounds, Pacing};
 use crate::refused::Refused;
+use cb_journal::Keeper;
 use cb_links::{Outlet, Received, WaitingInlet};
 use cb_member::{Event, Member};
 use std::alloc::Global;
@@ -22,7 +22,7 @@ use std::sync::Wait;
 use std::time::{Clock, Duration};
 
 /// So many frames are taken in one turn at most.
-const MOST_FRAMES: u32 = 64;
+pub const MOST_FRAMES: u32 = 64;
 
 /// A member, its link and its pace, driven from one thread.
 ///
@@ -57,10 +57,28 @@ impl<I, O, K> Node<I, O, K> {
         ensures handed { result.to ≡ result.kept.shown }
         ensures counts { result.ends.counts ≡ none_counted }
     {
-        let kept = KeptMember::new(alloc, member);
-        let handed = kept.shown();
+        let handed = member.events().len();
+        Node::going_on(alloc, member, link, bounds, keeper, handed)
+    }
+
+    /// A node for a member that came back: all of its entries are kept, and of its events the caller
+    /// has so many. The first turn hands out the others, also where nothing comes in it.
+    pub fn going_on(
+        alloc: Global,
+        member: Member,
+        link: (I, O),
+        bounds: Bounds,
+        keeper: K,
+        handed: usize,
+    ) -> Node<I, O, K>
+        requires { handed ≤ length (events_in member) }
+        ensures kept { result.kept ≡ all_kept member none_refused }
+        ensures keeper { result.keeper ≡ keeper }
+        ensures handed { result.to ≡ handed }
+        ensures counts { result.ends.counts ≡ none_counted }
+    {
         Node {
-            kept,
+            kept: KeptMember::new(alloc, member),
             keeper,
             ends: Ends::new(link),
             pacing: Pacing::new(bounds),
@@ -270,10 +288,11 @@ impl<I: WaitingInlet, O: Outlet, K: Keeper> Node<I, O, K> {
 }
 
 /// What the clock says, where it can be read.
-fn now(rt: &impl Clock) -> Option<Duration> {
+pub fn now(rt: &impl Clock) -> Option<Duration> {
     rt.monotonic().ok()
 }
 
-fn shorter(a: Duration, b: Duration) -> Duration {
+/// The shorter of two times.
+pub fn shorter(a: Duration, b: Duration) -> Duration {
     if a < b { a } else { b }
 }

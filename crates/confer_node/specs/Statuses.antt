@@ -14,12 +14,18 @@ use Rattle.confer_text.specs.declared.fault.LinesFault.{LinesFault}
 use Rattle.confer_text.specs.declared.fault.LinesFault.TheVariants as lines
 use Rattle.confer_node.specs.declared.ending.Ended.{Ended}
 use Rattle.confer_node.specs.declared.ending.Ended.TheVariants as ends
+use Rattle.confer_node.specs.declared.journal.JournalFault.{JournalFault}
+use Rattle.confer_node.specs.declared.journal.JournalFault.TheVariants as journals
 use Rattle.confer_node.specs.declared.fault.Fault.{Fault}
 use Rattle.confer_node.specs.declared.fault.Fault.TheVariants as faults
 
 abbrev pub words_status : ErrorKind → ℕ
 words_status kinds.OutOfMemory = 5
 words_status kind = 2
+
+abbrev pub journal_status : JournalFault → ℕ
+journal_status journals.NoMemory = 5
+journal_status fault = 3
 
 abbrev pub link_status : MakeFault → ℕ
 link_status links.BadMember = 2
@@ -46,6 +52,7 @@ status_of faults.NotText = 2
 status_of faults.NoAddress = 2
 status_of faults.NoMember = 2
 status_of faults.NoMemory = 5
+status_of (faults.Journal fault) = journal_status fault
 status_of (faults.Link fault) = link_status fault
 status_of faults.NoThread = 3
 status_of faults.NoClock = 3

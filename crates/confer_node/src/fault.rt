@@ -2,8 +2,9 @@
 
 ghost use Rattle.std.specs.Prelude.{◌≡◌};
 ghost use Rattle.confer_node.specs.Statuses.{cast_status, link_status, lines_status, status_of, turn_status, words_status};
-ghost use Rattle.confer_node.specs.declared.fault.Fault.TheVariants.{Lines as BadLines, Link as NoLink, NoMemory as OutOfMemory};
+ghost use Rattle.confer_node.specs.declared.fault.Fault.TheVariants.{Journal as NoJournal, Lines as BadLines, Link as NoLink, NoMemory as OutOfMemory};
 
+use crate::journal::JournalFault;
 use cb_member::CastRefusal;
 use cb_node::{NodeCastFault, TurnFault};
 use cb_remote::MakeFault;
@@ -16,8 +17,8 @@ use thiserror::Error;
 /// A fault in the words, or a call for help.
 const USAGE: u8 = 2;
 
-/// A fault of the input, of the output, of the file of the trace, of the link or of the thread that reads, or
-/// a history that is full.
+/// A fault of the input, of the output, of the journal, of the file of the trace, of the link or of
+/// the thread that reads, or a history that is full.
 const DEVICES: u8 = 3;
 
 /// Out of memory.
@@ -41,6 +42,9 @@ pub enum Fault {
     /// An allocation was refused.
     #[error("out of memory")]
     NoMemory,
+    /// No member comes back by the journal, or begins it.
+    #[error("no journal: {0}")]
+    Journal(JournalFault),
     /// The link was not made.
     #[error("no link: {0}")]
     Link(MakeFault),
@@ -80,6 +84,14 @@ impl<T: Drop> From<AllocFailed<T>> for Fault {
     }
 }
 
+impl From<JournalFault> for Fault {
+    ghost from_gives = { λ fault e. e ≡ NoJournal fault };
+
+    fn from(fault: JournalFault) -> Fault {
+        Fault::Journal(fault)
+    }
+}
+
 impl From<MakeFault> for Fault {
     ghost from_gives = { λ fault e. e ≡ NoLink fault };
 
@@ -105,6 +117,7 @@ impl Fault {
             Fault::Words(error) => words_status(error.kind()),
             Fault::NotText | Fault::NoAddress | Fault::NoMember => USAGE,
             Fault::NoMemory => MEMORY,
+            Fault::Journal(fault) => fault.status(),
             Fault::Link(fault) => link_status(*fault),
             Fault::NoThread | Fault::NoClock | Fault::Trace => DEVICES,
             Fault::Lines(fault) => lines_status(*fault),

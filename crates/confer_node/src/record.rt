@@ -24,7 +24,7 @@ pub fn record_of(alloc: Global, member: &Member) -> Result<Vec<u8>, NoMemory>
 }
 
 /// The first line, without its line feed.
-fn put_head(out: &mut Vec<u8>, seat: Identity) -> Result<(), NoMemory>
+pub fn put_head(out: &mut Vec<u8>, seat: Identity) -> Result<(), NoMemory>
     ensures { OnOk result (out.new.items ≡ out.old.items ++ head_line seat) }
 {
     put_group(out, seat.group())?;

@@ -7,26 +7,24 @@ use crate::ending::{Ended, Ending};
 use crate::fault::Fault;
 use crate::input;
 use crate::input::Piece;
+use crate::journal::{begin, come_back};
 use crate::record::record_of;
 use crate::session::Session;
 use crate::words::{LinkKind, Order};
 use cb_links::{Outlet, WaitingInlet};
-use cb_member::{Member, NewFault};
-use cb_node::{Bounds, NoJournal, Node};
+use cb_member::Member;
+use cb_node::{Bounds, Keeper, NoJournal, Node};
 use cb_remote::{Peers, TcpPeers, UdpPeers};
 use confer_text::write_whole;
 use crossbeam_channel::Receiver;
 use std::alloc::Global;
 use std::fs;
-use std::fs::Files;
+use std::fs::{File, Files};
 use std::io::{Read, Write};
 use std::net::{Net, TcpListener, TcpStream};
 use std::sync::Wait;
 use std::thread::Threads;
 use std::time::{Clock, Duration};
-
-/// The most entries of the member's history.
-const HISTORY_MAX: usize = 1_000_000;
 
 /// The milliseconds between two ticks while something is missing or not acknowledged.
 const QUICK: u64 = 20;
@@ -49,12 +47,20 @@ pub fn report<E: Write>(fault: &Fault, errors: &mut E) -> u8
     fault.status()
 }
 
+/// What a session is made of, but for its link.
+#[derive(Drop)]
+struct Parts<K, I> {
+    member: Member,
+    keeper: K,
+    input: I,
+}
+
 /// Does what the words order, and answers how it ended.
 pub fn run<
     H: Threads
         + Wait
         + Clock
-        + Files
+        + Files<File = File>
         + Net<Listener = TcpListener, Stream = TcpStream>
         + Copy
         + Send
@@ -64,44 +70,108 @@ pub fn run<
     W: Write,
     E: Write,
 >(rt: &H, order: &Order<'_>, input: I, output: &mut W, errors: &mut E) -> Result<Ended, Fault> {
-    let peers = Peers::new(order.alloc, order.group.size(), order.me, &order.addresses)?;
-    match order.link {
-        LinkKind::Udp => {
-            let link = UdpPeers::link(rt, order.alloc, peers)?;
-            let from = input::begin(rt, order.alloc, input)?;
-            finish(rt, order, session_of(order, link, from)?, output, errors)
+    match order.journal {
+        Some(path) => {
+            let kept = come_back(rt, order.alloc, order.seat, path)?;
+            let parts = Parts {
+                member: kept.member,
+                keeper: kept.journal,
+                input,
+            };
+            talk(rt, order, parts, output, errors)
         }
-        LinkKind::Tcp => {
-            let link = TcpPeers::link(*rt, order.alloc, order.group, &peers)?;
-            let from = input::begin(rt, order.alloc, input)?;
-            finish(rt, order, session_of(order, link, from)?, output, errors)
+        None => {
+            let parts = Parts {
+                member: begin(order.alloc, order.seat)?,
+                keeper: NoJournal,
+                input,
+            };
+            talk(rt, order, parts, output, errors)
         }
     }
 }
 
-/// The member that is ordered, on this link.
-fn session_of<I: Drop, O: Drop>(
+/// Runs the member on the link that is ordered.
+fn talk<
+    H: Threads
+        + Wait
+        + Clock
+        + Files
+        + Net<Listener = TcpListener, Stream = TcpStream>
+        + Copy
+        + Send
+        + Drop
+        + 'static,
+    K: Keeper + Drop,
+    I: Read + Send + Drop + 'static,
+    W: Write,
+    E: Write,
+>(
+    rt: &H,
     order: &Order<'_>,
-    link: (I, O),
-    from: Receiver<Piece>,
-) -> Result<Session<I, O>, Fault> {
-    let member = match Member::new(order.alloc, order.group, order.me, HISTORY_MAX) {
-        Ok(member) => member,
-        Err(NewFault::NoMemory) => return Err(Fault::NoMemory),
-        Err(_no_member) => return Err(Fault::NoMember),
-    };
+    parts: Parts<K, I>,
+    output: &mut W,
+    errors: &mut E,
+) -> Result<Ended, Fault> {
+    let group = order.seat.group();
+    let peers = Peers::new(order.alloc, group.size(), order.seat.me(), &order.addresses)?;
+    match order.link {
+        LinkKind::Udp => {
+            let link = UdpPeers::link(rt, order.alloc, peers)?;
+            finish(
+                rt,
+                order,
+                session_of(rt, order, parts, link)?,
+                output,
+                errors,
+            )
+        }
+        LinkKind::Tcp => {
+            let link = TcpPeers::link(*rt, order.alloc, group, &peers)?;
+            finish(
+                rt,
+                order,
+                session_of(rt, order, parts, link)?,
+                output,
+                errors,
+            )
+        }
+    }
+}
+
+/// The member on this link, with the thread that reads. All its events are printed, from the first on.
+fn session_of<
+    H: Threads + Wait + Copy + Send + Drop + 'static,
+    K: Drop,
+    J: Read + Send + Drop + 'static,
+    I: Drop,
+    O: Drop,
+>(rt: &H, order: &Order<'_>, parts: Parts<K, J>, link: (I, O)) -> Result<Session<I, O, K>, Fault> {
+    let Parts {
+        member,
+        keeper,
+        input,
+    } = parts;
+    let from = input::begin(rt, order.alloc, input)?;
     let Ok(bounds) = Bounds::new(Duration::from_millis(QUICK), Duration::from_millis(SLOW)) else {
         unreachable!("20 milliseconds and a second are bounds");
     };
-    let node = Node::new(order.alloc, member, link, bounds, NoJournal);
+    let node = Node::going_on(order.alloc, member, link, bounds, keeper, 0);
     Ok(Session::new(order.alloc, node, from, Ending::new(order.patience)))
 }
 
 /// Runs the member to its end, and writes the trace, also where a fault ended it.
-fn finish<H: Wait + Clock + Files, I: WaitingInlet + Drop, O: Outlet + Drop, W: Write, E: Write>(
+fn finish<
+    H: Wait + Clock + Files,
+    K: Keeper + Drop,
+    I: WaitingInlet + Drop,
+    O: Outlet + Drop,
+    W: Write,
+    E: Write,
+>(
     rt: &H,
     order: &Order<'_>,
-    session: Session<I, O>,
+    session: Session<I, O, K>,
     output: &mut W,
     errors: &mut E,
 ) -> Result<Ended, Fault> {

@@ -3,6 +3,7 @@
 ghost use Rattle.std.specs.Prelude.{◌≡◌, OnOk};
 ghost use Rattle.std.specs.Io.KnownBytes.{Appends, Keeps};
 ghost use Rattle.cb_history.specs.State.{events_in};
+ghost use Rattle.cb_node.specs.Kept.{KeepsUp};
 ghost use Rattle.cb_node.specs.Turning.{HasTurned, between};
 ghost use Rattle.confer_node.specs.Shown.{news_text};
 
@@ -13,7 +14,7 @@ use crate::lines::{LONGEST_LINE, Lines};
 use crate::shown::put_news;
 use cb_links::{Outlet, WaitingInlet};
 use cb_member::{CastRefusal, Event, Member};
-use cb_node::{NoJournal, Node, NodeCastFault};
+use cb_node::{Keeper, Node, NodeCastFault};
 use confer_text::{LinesFault, write_whole};
 use crossbeam_channel::{Receiver, TryRecvError};
 use std::alloc::Global;
@@ -29,9 +30,9 @@ const TOO_LONG: &[u8] = b"confer_node: a line of more than 1024 bytes is left ou
 
 /// A member, its input, and when it ends.
 #[derive(Drop)]
-pub struct Session<I, O> {
+pub struct Session<I, O, K> {
     alloc: Global,
-    node: Node<I, O, NoJournal>,
+    node: Node<I, O, K>,
     from: Receiver<Piece>,
     lines: Lines,
     /// The line that is cast next: the window had no room for it.
@@ -40,13 +41,13 @@ pub struct Session<I, O> {
     ending: Ending,
 }
 
-impl<I: Drop, O: Drop> Session<I, O> {
+impl<I: Drop, O: Drop, K: Drop> Session<I, O, K> {
     pub fn new(
         alloc: Global,
-        node: Node<I, O, NoJournal>,
+        node: Node<I, O, K>,
         from: Receiver<Piece>,
         ending: Ending,
-    ) -> Session<I, O> {
+    ) -> Session<I, O, K> {
         Session {
             alloc,
             node,
@@ -63,7 +64,7 @@ impl<I: Drop, O: Drop> Session<I, O> {
     }
 }
 
-impl<I: WaitingInlet + Drop, O: Outlet + Drop> Session<I, O> {
+impl<I: WaitingInlet + Drop, O: Outlet + Drop, K: Keeper + Drop> Session<I, O, K> {
     /// Casts what is read and prints what is cast and delivered, until it ends.
     pub fn run<R: Wait + Clock, W: Write, E: Write>(
         &mut self,
@@ -156,16 +157,18 @@ impl<I: WaitingInlet + Drop, O: Outlet + Drop> Session<I, O> {
 }
 
 /// A turn of the node. All that it hands out is printed, also where the turn was hindered.
-fn turn<R: Wait + Clock, I: WaitingInlet, O: Outlet, W: Write>(
+fn turn<R: Wait + Clock, I: WaitingInlet, O: Outlet, K: Keeper, W: Write>(
     rt: &R,
     alloc: Global,
-    node: &mut Node<I, O, NoJournal>,
+    node: &mut Node<I, O, K>,
     longest: Duration,
     output: &mut W,
 ) -> Result<(), Fault>
     ensures turned { HasTurned node.old.kept node.new.kept node.old.ends.counts.offered
         node.new.ends.counts.offered node.old.to node.new.to
         (between node.new.from node.new.to (events_in node.new.kept.member)) }
+    // What is printed are events of entries that are kept.
+    ensures keeps { KeepsUp K.has node.old.keeper node.new.keeper node.old.kept node.new.kept }
     ensures shown { OnOk result (Appends (W.contents output.old) (W.contents output.new)
         (news_text (between node.new.from node.new.to (events_in node.new.kept.member)))) }
 {

@@ -1,5 +1,6 @@
 //! The parts of a run, without threads and sockets.
 
+mod journals;
 mod lines;
 mod parts;
 mod sessions;

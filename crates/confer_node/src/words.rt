@@ -1,9 +1,10 @@
 //! What the words of the command line order.
 
-ghost use Rattle.std.specs.Prelude.{◌≡◌, ◌<◌, IfOk, length};
+ghost use Rattle.std.specs.Prelude.{◌≡◌, IfOk, length};
+ghost use Rattle.cb_history.specs.Group.{IsIdentity};
 
 use crate::fault::Fault;
-use cb_member::Group;
+use cb_member::{Group, Identity};
 use clap::builder::ValueParser;
 use clap::{Arg, ArgAction, ArgMatches, Command, value_parser};
 use std::alloc::{AllocError, Global};
@@ -24,7 +25,8 @@ Example:
 
 Exit status: 0 all was cast and is stable, 1 the time was over before that, 2 the words are refused or help was \
 asked for,
-3 a fault of the input, the output, the link or the thread that reads, or a full history, 5 out of memory.";
+3 a fault of the input, the output, the journal, the link or the thread that reads, or a full history, 5 out of \
+memory.";
 
 /// What carries the frames.
 #[derive(Clone, Copy, Debug, PartialEq, Eq)]
@@ -37,11 +39,12 @@ pub enum LinkKind {
 #[derive(Drop)]
 pub struct Order<'a> {
     pub alloc: Global,
-    pub group: Group,
-    pub me: u32,
+    pub seat: Identity,
     /// The addresses of all members, in the order of their numbers.
     pub addresses: Vec<SocketAddr>,
     pub link: LinkKind,
+    /// Where the journal stands.
+    pub journal: Option<&'a str>,
     /// Where the trace goes.
     pub trace: Option<&'a str>,
     /// So long the run goes on behind the end of its input at most.
@@ -50,8 +53,8 @@ pub struct Order<'a> {
 
 /// What the words order, of which the first is the program's name.
 pub fn order_of<'a, S: AsStr>(alloc: Global, words: &'a [S]) -> Result<Order<'a>, Fault>
-    ensures { IfOk result (λ order. (order.me < order.group.size)
-        × (length order.addresses.items ≡ order.group.size)) }
+    ensures { IfOk result (λ order. IsIdentity order.seat
+        × (length order.addresses.items ≡ order.seat.group.size)) }
 {
     let matches = match command(alloc)?.try_get_matches_from(words) {
         Ok(matches) => matches,
@@ -61,21 +64,21 @@ pub fn order_of<'a, S: AsStr>(alloc: Global, words: &'a [S]) -> Result<Order<'a>
 }
 
 fn ordered<'a>(alloc: Global, options: &ArgMatches<'a>) -> Result<Order<'a>, Fault>
-    ensures { IfOk result (λ order. (order.me < order.group.size)
-        × (length order.addresses.items ≡ order.group.size)) }
+    ensures { IfOk result (λ order. IsIdentity order.seat
+        × (length order.addresses.items ≡ order.seat.group.size)) }
 {
     let addresses = addresses_of(alloc, options.get_strs("peer").unwrap_or(&[]))?;
     let group = group_of(options, addresses.len())?;
     let me = number(options, "me")?;
-    if group.size() <= me {
+    let Some(seat) = Identity::new(group, me) else {
         return Err(Fault::NoMember);
-    }
+    };
     Ok(Order {
         alloc,
-        group,
-        me,
+        seat,
         addresses,
         link: link_of(options),
+        journal: options.get_str("journal"),
         trace: options.get_str("trace"),
         patience: patience_of(options),
     })
@@ -138,7 +141,10 @@ fn command<'a>(alloc: Global) -> Result<Command<'a>, AllocError> {
         "How long it goes on behind the end of its input at most, 0 to 86400",
     ))?;
     let linked = timed.arg(link_option(alloc))?;
-    linked.arg(text_option(alloc, "trace", "FILE").help(
+    let kept = linked.arg(text_option(alloc, "journal", "FILE").help(
+        "Where all that this member does is written before it is sent or printed; it comes back by that",
+    ))?;
+    kept.arg(text_option(alloc, "trace", "FILE").help(
         "Where the journal of this member is written at the end, for a trace",
     ))
 }

@@ -1,7 +1,7 @@
 //! A clock that is set, links that lose frames, and keepers that fail.
 
-use crate::keeper::{KeepFault, Keeper};
 use cb_history::Outgoing;
+use cb_journal::{KeepFault, Keeper};
 use cb_links::{Inlet, LinkFault, Outlet, Received, WaitingInlet};
 use cb_member::Entry;
 use std::io;

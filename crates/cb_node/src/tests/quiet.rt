@@ -1,10 +1,10 @@
 //! How often a node ticks, by a clock that is set.
 
 use crate::fault::TurnFault;
-use crate::keeper::{KeepFault, NoJournal};
 use crate::node::Node;
 use crate::pace::{BadBounds, Bounds};
 use crate::tests::fakes::{Broken, SetClock, Short, Silent, Timed};
+use cb_journal::{KeepFault, NoJournal};
 use cb_links::{ChannelLink, ChannelOutlet, WaitingInlet};
 use cb_member::{Group, Member};
 use std::alloc::Global;

@@ -1,10 +1,10 @@
 //! The loop of a program round its node, as the guide shows it.
 
 use crate::fault::TurnFault;
-use crate::keeper::NoJournal;
 use crate::node::Node;
 use crate::pace::Bounds;
 use crate::tests::fakes::{SetClock, Silent, Timed};
+use cb_journal::NoJournal;
 use cb_links::{ChannelLink, ChannelOutlet};
 use cb_member::{Event, Group, Member};
 use std::sync::Wait;

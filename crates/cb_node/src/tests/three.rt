@@ -1,10 +1,10 @@
 //! Three nodes over channels, by turns.
 
 use crate::fault::TurnFault;
-use crate::keeper::NoJournal;
 use crate::node::Node;
 use crate::pace::Bounds;
 use crate::tests::fakes::{Lossy, SetClock, Timed};
+use cb_journal::NoJournal;
 use cb_links::{ChannelInlet, ChannelLink, ChannelOutlet};
 use cb_member::{Group, Member};
 use std::alloc::Global;

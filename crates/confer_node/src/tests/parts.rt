@@ -119,10 +119,9 @@ fn words_order_a_member(rt: HostRuntime) {
         "5",
     ];
     let order = order_of(rt.alloc(), &words).expect(&rt, "an order");
-    assert_eq!(&rt; order.me, 1);
-    assert_eq!(&rt; order.group.number(), 7);
-    assert_eq!(&rt; order.group.size(), 2);
-    assert_eq!(&rt; order.group.window(), 16);
+    assert_eq!(&rt; order.seat.me(), 1);
+    let group = order.seat.group();
+    assert_eq!(&rt; (group.number(), group.size(), group.window()), (7, 2, 16));
     assert_eq!(&rt; order.link, LinkKind::Tcp);
     assert_eq!(&rt; order.trace, Some("file"));
     assert_eq!(&rt; order.patience, Some(Duration::from_secs(5)));

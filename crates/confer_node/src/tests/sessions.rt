@@ -69,7 +69,11 @@ fn input(rt: &(impl Abort + Wait), alloc: Global, pieces: &[&[u8]]) -> Receiver<
 }
 
 /// Member 0 of two, with a window of two, whose time is over at once behind its input.
-fn session(rt: &impl Abort, alloc: Global, from: Receiver<Piece>) -> Session<Silent, Nowhere> {
+fn session(
+    rt: &impl Abort,
+    alloc: Global,
+    from: Receiver<Piece>,
+) -> Session<Silent, Nowhere, NoJournal> {
     let group = Group::new(7, 2, 2).expect(rt, "a group");
     let member = Member::new(alloc, group, 0, 9).expect(rt, "a member");
     let bounds = Bounds::new(Duration::from_millis(10), Duration::from_secs(1)).expect(

@@ -1,0 +1,142 @@
+//! A member comes back by its journal: on a file, and why it does not.
+
+use crate::journal::{JournalFault, Kept, come_back, kept_by};
+use cb_member::{Group, Identity};
+use std::alloc::Global;
+use std::fs;
+use std::fs::{File, Files, OpenOptions};
+use std::io::Write;
+use std::process::Abort;
+
+/// Member 0 of two.
+fn seat(rt: &impl Abort) -> Identity {
+    let group = Group::new(7, 2, 4).expect(rt, "a group");
+    Identity::new(group, 0).expect(rt, "a member")
+}
+
+/// One life of the member on this file: it comes back, casts this and ends. How many entries it had.
+fn life<R: Abort + Files<File = File>>(rt: &R, alloc: Global, path: &str, payload: &[u8]) -> usize {
+    let kept = come_back(rt, alloc, seat(rt), path).expect(rt, "it comes back");
+    let Kept {
+        mut member,
+        mut journal,
+    } = kept;
+    let had = member.history().len();
+    let (done, entry) = member.cast_noted(payload).expect(rt, "a cast");
+    drop(done);
+    let written = journal.append(&entry);
+    drop(entry);
+    drop(member);
+    drop(journal);
+    written.expect(rt, "it is written");
+    had
+}
+
+/// A crash within the next line leaves these bytes of it.
+fn tear<R: Abort + Files<File = File>>(rt: &R, path: &str, torn: &[u8]) {
+    let mut options = OpenOptions::new();
+    options.append(true);
+    let mut file = options.open(rt, path).expect(rt, "the file");
+    let count = file.write(torn).expect(rt, "it is written");
+    drop(file);
+    assert!(rt; count == torn.len());
+}
+
+#[test]
+fn two_crashes_in_a_row_on_a_file_lose_no_whole_line(rt: HostRuntime) {
+    let path = "two_crashes.journal";
+    let _ = fs::remove_file(&rt, path);
+    let alloc = rt.alloc();
+    let first = life(&rt, alloc, path, b"one");
+    tear(&rt, path, b"cast 1107");
+    let second = life(&rt, alloc, path, b"two");
+    tear(&rt, path, b"arr");
+    let third = life(&rt, alloc, path, b"six");
+    let text = fs::read(&rt, path).expect(&rt, "the file");
+    let is_whole = text.as_slice() == WHOLE.as_bytes();
+    drop(text);
+    let _ = fs::remove_file(&rt, path);
+    assert_eq!(&rt; (first, second, third), (0, 1, 2));
+    assert!(&rt; is_whole);
+}
+
+/// Its journal behind the three lives.
+const WHOLE: &str = "cbcast 1 group 7 size 2 window 4 member 0
+cast 1107000100036f6e65
+cast 11070002000374776f
+cast 110700030003736978
+";
+
+#[test]
+fn a_file_is_one_member_s_at_a_time(rt: HostRuntime) {
+    let path = "one_at_a_time.journal";
+    let _ = fs::remove_file(&rt, path);
+    let alloc = rt.alloc();
+    let kept = come_back(&rt, alloc, seat(&rt), path).expect(&rt, "it begins");
+    let second = come_back(&rt, alloc, seat(&rt), path).err();
+    drop(kept);
+    let third = come_back(&rt, alloc, seat(&rt), path).err();
+    let _ = fs::remove_file(&rt, path);
+    assert_eq!(&rt; (second, third), (Some(JournalFault::InUse), None));
+}
+
+#[test]
+fn a_file_in_no_folder_is_not_opened(rt: HostRuntime) {
+    let path = "no such folder/a.journal";
+    let answer = come_back(&rt, rt.alloc(), seat(&rt), path).err();
+    assert_eq!(&rt; answer, Some(JournalFault::NotOpened));
+}
+
+/// What is answered for these bytes: how many entries the member has, or the fault.
+fn answer(rt: &impl Abort, alloc: Global, text: &[u8]) -> Result<usize, JournalFault> {
+    let device = Vec::from_slice(alloc, text).expect(rt, "memory");
+    match kept_by(alloc, seat(rt), text, device) {
+        Ok(kept) => Ok(kept.member.history().len()),
+        Err(fault) => Err(fault),
+    }
+}
+
+#[test]
+fn only_its_own_journal_brings_a_member_back(rt: HostRuntime) {
+    let alloc = rt.alloc();
+    let other = Err(JournalFault::OtherJournal);
+    let bad = |line: u64| Err(JournalFault::BadLine { line });
+    let table = [
+        ("", Ok(0)),
+        ("cbcast 1 group 7 size 2 win", Ok(0)),
+        ("my own notes", bad(1)),
+        ("my own notes\n", bad(1)),
+        ("cbcast 1 group 7 size 2 window 4 member 1\n", other),
+        ("cbcast 1 group 8 size 2 window 4 member 0\n", other),
+        ("cbcast 1 group 7 size 3 window 4 member 0\n", other),
+        ("cbcast 1 group 7 size 2 window 5 member 0\n", other),
+        ("cbcast 1 group 7 size 2 window 4 member 0\n", Ok(0)),
+        (
+            "cbcast 1 group 7 size 2 window 4 member 0\ncast 110700010003",
+            Ok(0),
+        ),
+        (
+            "cbcast 1 group 7 size 2 window 4 member 0\nsaid 1107\n",
+            bad(2),
+        ),
+    ];
+    for (text, wanted) in table {
+        assert_eq!(&rt; answer(&rt, alloc, text.as_bytes()), wanted);
+    }
+}
+
+#[test]
+fn an_entry_that_no_call_adds_brings_nobody_back(rt: HostRuntime) {
+    // The member's second cast, with no first one before it.
+    let text = b"cbcast 1 group 7 size 2 window 4 member 0\ncast 11070002000174\n";
+    let wanted = Err(JournalFault::NotLegal { entry: 1 });
+    assert_eq!(&rt; answer(&rt, rt.alloc(), text), wanted);
+}
+
+#[test]
+fn faults_of_a_journal_have_their_statuses(rt: HostRuntime) {
+    assert_eq!(&rt; JournalFault::InUse.status(), 3);
+    assert_eq!(&rt; JournalFault::BadLine { line: 2 }.status(), 3);
+    assert_eq!(&rt; JournalFault::NotWritten.status(), 3);
+    assert_eq!(&rt; JournalFault::NoMemory.status(), 5);
+}
