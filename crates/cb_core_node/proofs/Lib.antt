@@ -1,0 +1,5 @@
+pub mod Adding
+pub mod Courses
+pub mod Calls
+pub mod Desks
+pub mod Turns
