@@ -1,0 +1,9 @@
+//! Members with journals over real threads.
+
+ghost use Rattle.std.specs.Prelude.{◌≡◌, []};
+
+mod failing;
+mod group;
+mod parts;
+mod settling;
+mod writer;
