@@ -22,6 +22,17 @@ add() {
     failed=$((failed + status))
 }
 
+# lanes: how many checks at once: one for each processor, where each has 5 GB. A check here takes 1 to 4 GB; `rt ci` by itself counts on up to
+# 10 GB for the larger crates, and then leaves processors idle, or lets the longest chain wait.
+lanes() {
+    local processors memory
+    processors=$(nproc)
+    memory=$(($(sed -n 's/^MemAvailable: *\([0-9]*\) kB/\1/p' /proc/meminfo) / 5000000))
+    [ "$memory" -ge 1 ] || memory=1
+    echo $((memory < processors ? memory : processors))
+}
+
+export RT_JOBS=${RT_JOBS:-$(lanes)}
 add rt ci
 # what the gate has just proved need not be proved once more
 export JOLUNZA_OVER_GATE=1
