@@ -4,3 +4,4 @@ mod Checking
 mod Claimed
 mod Names
 mod Entering
+mod Past

@@ -8,11 +8,11 @@ ghost use Rattle.cb_history.specs.State.{IsMemberState, HasCast, HasCastBurst, H
 ghost use Rattle.cb_history.specs.Facts.{entry_fields};
 ghost use Rattle.cb_history.specs.Load.{many_of};
 ghost use Rattle.cb_member.specs.Received.{HasTakenToSend};
-ghost use Rattle.cb_lock.specs.Receipts.{receipt_fields, and_claim, entered};
+ghost use Rattle.cb_lock.specs.Receipts.{receipt_fields, and_claim, receipts_of_history, entered};
 ghost use Rattle.cb_lock.specs.Calls.{MayRefuseCast, MayRefuseBurst, MayRefuseArrival, MayRefuseTick, TriesOn, all_of, and_receipt, payloads_of, reported_by_cast, reported_by_burst, reported_by_arrival, reported_by_tick};
 
 use crate::payloads::{Payloads, Tried};
-use crate::seat::{Receipt, Seat};
+use crate::seat::{Receipt, Seat, receipts_of};
 use bytes::Bytes;
 use cb_member::{
     Arrival, ArriveRefusal, BurstDone, BurstRefusal, CastDone, CastRefusal, Entry, Member,
@@ -57,6 +57,29 @@ impl<L: Ledger> Held<L> {
         // The reading tells the prover that the member is legal.
         let _seat = member.seat();
         (Held { member, book }, Seat::new(alloc, share))
+    }
+
+    /// A member with entries, with the first seat, which has every part of the ledger and a receipt for each of these entries.
+    ///
+    /// The only error is out of memory for the receipts. Then the member is dropped.
+    pub fn going_on(
+        alloc: Global,
+        blank: Blank,
+        member: Member,
+    ) -> Result<(Held<L>, Seat<L>), NoMemory>
+        requires name { blank.name ≡ L.name }
+        requires parts { blank.parts ≡ L.parts }
+        requires some { 1 ≤ blank.parts }
+        ensures member { IfOk result (λ r. r.0 ≡ member) }
+        ensures seat { IfOk result (λ r. r.1 ≡ record {
+          parts = L.parts;
+          receipts = receipts_of_history member.entries;
+        }) }
+    {
+        let receipts = receipts_of(alloc, member.history())?;
+        let (mut book, mut share) = blank.open::<L>();
+        book.add(&mut share, receipts.len() as u64);
+        Ok((Held { member, book }, Seat { receipts, share }))
     }
 
     /// Casts a message of this payload, as the member does, and appends a receipt of it to the seat.

@@ -1,9 +1,11 @@
 //! What a caller of a shared member holds.
 
-ghost use Rattle.std.specs.Prelude.{◌≡◌, ◌+◌, ◌≤◌, [], map};
-ghost use Rattle.cb_lock.specs.Receipts.{receipt_fields};
+ghost use Rattle.std.specs.Prelude.{◌≡◌, ◌+◌, ◌∷◌, ◌++◌, ◌≤◌, [], IfOk, OnOk, length, map};
+ghost use Rattle.std.specs.Vec.{vec_len};
+ghost use Rattle.cb_history.specs.Facts.{entry_fields};
+ghost use Rattle.cb_lock.specs.Receipts.{receipts_of_history, receipt_fields};
 
-use cb_member::Entry;
+use cb_member::{Entry, NoMemory};
 use std::alloc::Global;
 use std::marker::Model;
 use std::sync::ledger::{Ledger, Share};
@@ -14,6 +16,34 @@ pub struct Receipt {
     /// Entry 1 is the first.
     pub place: usize,
     pub entry: Entry,
+}
+
+/// A receipt for each entry of a history, in order. The only error is out of memory.
+pub(crate) fn receipts_of(alloc: Global, entries: &[Entry]) -> Result<Vec<Receipt>, NoMemory>
+    ensures receipts { IfOk result (λ receipts. map receipt_fields receipts.items
+        ≡ receipts_of_history (map entry_fields entries.now)) }
+    ensures count { IfOk result (λ receipts. vec_len receipts ≡ length entries.now) }
+{
+    let mut receipts = Vec::with_capacity(alloc, entries.len())?;
+    for entry in entries {
+        claim_next(&mut receipts, entry)?;
+    }
+    Ok(receipts)
+}
+
+/// Appends a receipt of the entry behind those that have one. Out of memory nothing is appended.
+fn claim_next(receipts: &mut Vec<Receipt>, entry: &Entry) -> Result<(), NoMemory>
+    ensures receipts { OnOk result (map receipt_fields receipts.new.items
+        ≡ map receipt_fields receipts.old.items ++ record {
+          place = vec_len receipts.old + 1;
+          entry = entry_fields entry.now;
+        } ∷ []) }
+    ensures count { OnOk result (vec_len receipts.new ≡ vec_len receipts.old + 1) }
+{
+    let place = receipts.len() + 1;
+    let entry = entry.copy()?;
+    receipts.push(Receipt { place, entry })?;
+    Ok(())
 }
 
 /// A caller's seat at a shared member: its receipts, and its share of the member's ledger.

@@ -6,6 +6,7 @@ ghost use Rattle.cb_frames.specs.Fields.{One};
 ghost use Rattle.cb_history.specs.Load.{many_of};
 ghost use Rattle.cb_lock.specs.Calls.{CoversReceipts, OnSome, CastsIfGiven, CastsOn, BurstsOn, TriesOn, ArrivesOn, ReceivesOn, TicksOn, payloads_of};
 ghost use Rattle.cb_lock.specs.Closing.{IsFault, IsClosed};
+ghost use Rattle.cb_lock.specs.Receipts.{receipts_of_history};
 
 use crate::closing::{CloseFault, CloseRefusal, Closed, fault_of};
 use crate::held::Held;
@@ -14,7 +15,7 @@ use crate::seat::Seat;
 use bytes::Bytes;
 use cb_member::{
     Arrival, ArriveRefusal, BurstDone, BurstRefusal, CastDone, CastRefusal, Identity, Member,
-    Outgoing, TickRefusal, Ticked,
+    NoMemory, Outgoing, TickRefusal, Ticked,
 };
 use std::alloc::Global;
 use std::sync::ledger::{Blank, Ledger};
@@ -26,7 +27,7 @@ use std::sync::{Mutex, Wait};
 /// call of `Held`, and frees the lock; no lock covers two members.
 #[derive(Drop)]
 pub struct SharedMember<L: Ledger> {
-    /// The group and the number of the member that `new` was given.
+    /// The group and the number of the member that the sharing began with.
     identity: Identity,
     held: Mutex<Held<L>>,
 }
@@ -45,6 +46,30 @@ impl<L: Ledger> SharedMember<L> {
         let (held, seat) = Held::new(alloc, blank, member);
         let held = Mutex::new(held);
         (SharedMember { identity, held }, seat)
+    }
+
+    /// A member that has entries, as one that came back by its journal, behind a lock of its own. The first seat has every part of the
+    /// ledger, and a receipt for each of these entries: `close` wants it beside the seats that are split off it.
+    ///
+    /// The only error is out of memory for the receipts. Then the member is dropped.
+    pub fn going_on(
+        alloc: Global,
+        blank: Blank,
+        member: Member,
+    ) -> Result<(SharedMember<L>, Seat<L>), NoMemory>
+        requires name { blank.name ≡ L.name }
+        requires parts { blank.parts ≡ L.parts }
+        requires some { 1 ≤ blank.parts }
+        ensures identity { IfOk result (λ r. r.0.identity ≡ member.seat) }
+        ensures seat { IfOk result (λ r. r.1 ≡ record {
+          parts = L.parts;
+          receipts = receipts_of_history member.entries;
+        }) }
+    {
+        let identity = member.seat();
+        let (held, seat) = Held::going_on(alloc, blank, member)?;
+        let held = Mutex::new(held);
+        Ok((SharedMember { identity, held }, seat))
     }
 
     /// Casts a message of this payload, as the member does, and appends a receipt of it to the seat.

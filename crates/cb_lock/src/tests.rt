@@ -7,6 +7,7 @@ ghost use Rattle.std.specs.Prelude.{◌≡◌, []};
 
 mod closing;
 mod crowd;
+mod going_on;
 mod locked;
 mod said;
 mod two;
@@ -23,6 +24,15 @@ fn member(rt: &impl Abort, alloc: Global, sizes: (u32, u32), me: u32, limit: usi
 {
     let group = Group::new(7, sizes.0, sizes.1).expect(rt, "a group");
     Member::new(alloc, group, me, limit).expect(rt, "a member")
+}
+
+/// A member that cast, ticked and cast.
+fn with_three_entries(rt: &impl Abort, alloc: Global) -> Member {
+    let mut member = member(rt, alloc, (3, 4), 0, 100);
+    drop(member.cast(b"a").expect(rt, "a cast"));
+    drop(member.tick().expect(rt, "a tick"));
+    drop(member.cast(b"b").expect(rt, "a cast"));
+    member
 }
 
 /// These receipts of one seat are those of the whole history.

@@ -2,7 +2,7 @@
 
 ghost use Rattle.std.specs.Prelude.{◌≡◌};
 
-use super::{member, seats};
+use super::{member, seats, with_three_entries};
 use crate::closing::{fault_of, none_seen, wrong_in_seat};
 use crate::{CloseFault, Held, Receipt, Seat};
 use cb_member::{Identity, Member};
@@ -11,15 +11,6 @@ use std::marker::Brand;
 use std::process::Abort;
 use std::sync::ledger::{Blank, Ledger};
 use std::test::*;
-
-/// A member that cast, ticked and cast.
-fn with_three_entries(rt: &impl Abort, alloc: Global) -> Member {
-    let mut member = member(rt, alloc, (3, 4), 0, 100);
-    drop(member.cast(b"a").expect(rt, "a cast"));
-    drop(member.tick().expect(rt, "a tick"));
-    drop(member.cast(b"b").expect(rt, "a cast"));
-    member
-}
 
 /// Receipts of one seat, each with a place and the number of the entry that it shows.
 type Claims = &'static [(usize, usize)];
