@@ -30,8 +30,9 @@ use std::time::Clock;
 ///
 /// The first three end after so many turns as the limits say, once the stop is set, or once an entry
 /// could not be kept; the talker's also once it has finished. The fourth ends when they have. The
-/// outbox is one of which the member's whole history is kept. It is handed back in the report, with
-/// its keeper: behind it is kept what the seats have receipts of, but for a fault or a gap. The seats
+/// outbox is one of which the member's whole history is kept: nothing yet, or all that a member which
+/// came back has. It is handed back in the report, with its keeper: behind it is kept what the seats
+/// have receipts of, but for a fault or a gap. The talker is shown events from the first. The seats
 /// are handed back for `close`: all three, but where a thread or a list was refused, as the report's
 /// fault says.
 pub fn run_member_kept<

@@ -2,6 +2,7 @@
 
 ghost use Rattle.std.specs.Prelude.{◌≡◌, []};
 
+mod coming_back;
 mod failing;
 mod group;
 mod parts;

@@ -30,7 +30,8 @@ use std::time::Clock;
 /// also once it has finished. The sender ends when they have. Link, pace and talker stand in the
 /// report. The seats are handed back for `close`: all four, but where a thread or a list was
 /// refused, as the report's fault says. The counts of the report are those of the receipts in the
-/// seats that are handed back.
+/// seats that are handed back: of a member that goes on with entries those of its past too, where one
+/// of the four seats has them. The talker is shown the member's events from the first.
 pub fn run_member<
     I: Inlet + Send + Drop,
     O: Outlet + Send + Drop,

@@ -35,14 +35,15 @@ impl fmt::Display for WorkerFault {
 
 impl Error for WorkerFault {}
 
-/// What became of a member's workers. Each count stays at its greatest value.
+/// What became of a member's workers. Each count stays at its greatest value; the first three are
+/// those of the receipts in the seats, or of the whole history of a member of a group.
 #[derive(Drop)]
 pub struct MemberReport<I, O, P, T> {
     /// The messages that the member cast.
     pub casts: u64,
     /// The messages of others that it delivered.
     pub deliveries: u64,
-    /// The entries that the workers added to its history.
+    /// The entries that were added to its history.
     pub entries: u64,
     /// The arrivals that the member refused, also where it was out of memory.
     pub refused: u64,

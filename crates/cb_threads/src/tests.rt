@@ -8,6 +8,7 @@ mod closing;
 mod ending;
 mod faults;
 mod gathering;
+mod going_on;
 mod group;
 mod helps;
 mod naps;
