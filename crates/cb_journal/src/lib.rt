@@ -20,6 +20,7 @@ mod writing;
 pub use cb_history::{Entry, Group, History, Identity};
 pub use device::Device;
 pub use fault::{AppendFault, ReadFault};
+pub use head::{head_of, put_head};
 pub use keeper::{KeepFault, Keeper, NoJournal};
 pub use reading::{Journal, read_journal};
 pub use writing::JournalWriter;
