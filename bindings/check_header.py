@@ -87,7 +87,7 @@ def of_rust():
         {name: pairs_in(fields, ",", rust_pair) for name, fields in re.findall(r"#\[repr\(C\)\][^{]*?pub struct (\w+) \{(.*?)\}", text, re.S)},
         {
             name: [("", result or "void"), *pairs_in(parameters, ",", rust_pair)]
-            for name, parameters, result in re.findall(r"pub fn (jolunza_\w+)\((.*?)\)(?: -> (\w+))?;", text, re.S)
+            for name, parameters, result in re.findall(r"pub fn (jolunza_\w+)\((.*?)\)(?:\s+-> (\w+))?;", text, re.S)
         },
     )
 

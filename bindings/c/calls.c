@@ -47,6 +47,7 @@ struct filled {
     jolunza_name names[4];
     jolunza_range ranges[4];
     jolunza_delayed delayed;
+    jolunza_journal journal;
     bool full;
     uint32_t times[16];
     uint8_t bytes[JOLUNZA_LONGEST_FRAME];
@@ -135,6 +136,8 @@ static void test_closed(jolunza_handle *handle)
     CHECK(jolunza_waiting(handle, f->times) == JOLUNZA_CLOSED);
     CHECK(jolunza_waits_for(handle, 0, &f->delayed) == JOLUNZA_CLOSED);
     CHECK(jolunza_missing(handle, 1, f->ranges, 4, &f->count) == JOLUNZA_CLOSED);
+    CHECK(jolunza_journal_head(handle, f->bytes, sizeof f->bytes, &f->count) == JOLUNZA_CLOSED);
+    CHECK(jolunza_journal_line(handle, 0, f->bytes, sizeof f->bytes, &f->count) == JOLUNZA_CLOSED);
     CHECK(IS_UNTOUCHED(filled));
     CHECK(!handle->is_open);
     jolunza_close(handle);
@@ -914,6 +917,133 @@ static void test_missing(void)
     jolunza_close(&handle);
 }
 
+/* Member 1 takes "hi" of member 0, answers "yo" and reports. */
+static const char worked[] = "cbcast 1 group 7 size 3 window 4 member 1\n"
+                             "arrive 1107000100026869 0.1\n"
+                             "cast 1107010101000102796f\n"
+                             "tick 1207010200010001\n";
+
+/* How many bytes its first lines have: the head alone, and with each entry more. */
+static const size_t lines[] = {42, 70, 96, 118};
+
+enum { HEAD = 42, ENTRIES = 3 };
+
+/* The member of the worked journal. */
+static void open_worked(jolunza_handle *handle, size_t limit)
+{
+    CHECK(jolunza_open(handle, GROUP, SIZE, WINDOW, 1, limit) == JOLUNZA_DONE);
+    CHECK(receive(handle, BYTES(0x11, 7, 0, 1, 0, 2, 'h', 'i')) == JOLUNZA_DONE);
+    CHECK(cast(handle, "yo") == JOLUNZA_DONE);
+    CHECK(jolunza_tick(handle) == JOLUNZA_DONE);
+    untouched();
+}
+
+/* Whether entry `index` is told as line `line` of the worked journal, as far as it fits. */
+static bool tells_line(jolunza_handle *handle, size_t index, size_t line, size_t capacity)
+{
+    size_t length = lines[line] - lines[line - 1], shown = length < capacity ? length : capacity;
+    struct filled *f = &filled;
+
+    untouched();
+    return jolunza_journal_line(handle, index, f->bytes, capacity, &f->count) == JOLUNZA_DONE && f->count == length
+        && memcmp(f->bytes, worked + lines[line - 1], shown) == 0 && is_untouched(f->bytes + shown, sizeof f->bytes - shown);
+}
+
+static void test_journal(void)
+{
+    jolunza_handle handle = JOLUNZA_CLOSED_HANDLE;
+    struct filled *f = &filled;
+
+    open_worked(&handle, LIMIT);
+    CHECK(jolunza_journal_head(&handle, f->bytes, sizeof f->bytes, &f->count) == JOLUNZA_DONE && f->count == HEAD);
+    CHECK(memcmp(f->bytes, worked, HEAD) == 0 && is_untouched(f->bytes + HEAD, 9));
+    untouched();
+    CHECK(jolunza_journal_head(&handle, f->bytes, 6, &f->count) == JOLUNZA_DONE && f->count == HEAD);
+    CHECK(memcmp(f->bytes, "cbcast", 6) == 0 && is_untouched(f->bytes + 6, 9));
+    for (size_t line = 1; line <= ENTRIES; line++) {
+        CHECK(tells_line(&handle, line - 1, line, sizeof f->bytes));
+        CHECK(tells_line(&handle, line - 1, line, 9));
+        CHECK(tells_line(&handle, line - 1, line, 0));
+    }
+    untouched();
+    CHECK(jolunza_journal_line(&handle, ENTRIES, f->bytes, sizeof f->bytes, &f->count) == JOLUNZA_NONE_THERE);
+    CHECK(jolunza_journal_line(&handle, SIZE_MAX, f->bytes, sizeof f->bytes, &f->count) == JOLUNZA_NONE_THERE);
+    CHECK(IS_UNTOUCHED(filled));
+    CHECK(counts(&handle, 1, 2, 3));
+    /* without a history the line of the last call is there alone */
+    open_worked(&handle, 0);
+    CHECK(tells_line(&handle, 0, ENTRIES, sizeof f->bytes));
+    untouched();
+    CHECK(jolunza_journal_line(&handle, 1, f->bytes, sizeof f->bytes, &f->count) == JOLUNZA_NONE_THERE);
+    CHECK(IS_UNTOUCHED(filled));
+    jolunza_close(&handle);
+}
+
+static uint32_t resume(jolunza_handle *handle, const char *text, size_t length, size_t limit)
+{
+    untouched();
+    return jolunza_resume(handle, (const uint8_t *)text, length, limit, &filled.journal);
+}
+
+/* The member comes back by the worked journal up to this byte, behind the line of this entry or in the next line. */
+static void comes_back(size_t length, size_t entries, size_t limit)
+{
+    jolunza_handle handle = JOLUNZA_CLOSED_HANDLE;
+    const jolunza_journal *journal = &filled.journal;
+
+    open_new(&handle, 2);
+    CHECK(resume(&handle, worked, length, limit) == JOLUNZA_DONE);
+    CHECK(journal->group == GROUP && journal->size == SIZE && journal->window == WINDOW && journal->me == 1);
+    CHECK(journal->entries == entries && journal->read == lines[entries] && journal->line == 0);
+    CHECK(counts(&handle, 0, entries < 2 ? entries : 2, entries));
+    for (size_t line = 1; line <= entries; line++)
+        CHECK(tells_line(&handle, line - 1, line, sizeof filled.bytes));
+    if (entries == ENTRIES) {
+        CHECK(cast(&handle, "ok") == JOLUNZA_DONE);
+        CHECK(is_frame(&handle, 0, TO_ALL, BYTES(0x11, 7, 1, 2, 0, 2, 'o', 'k')));
+        CHECK(limit == 0 ? counts(&handle, 1, 1, 1) : counts(&handle, 1, 3, 4));
+    }
+    jolunza_close(&handle);
+}
+
+/* No member comes back: the handle is closed, and of the journal nothing is filled but the line at fault, if there is one. */
+static void comes_not_back(const char *text, size_t limit, uint32_t code, size_t line)
+{
+    jolunza_handle handle = JOLUNZA_CLOSED_HANDLE;
+    jolunza_journal *journal = &filled.journal;
+
+    open_new(&handle, 0);
+    CHECK(resume(&handle, text, strlen(text), limit) == code);
+    CHECK(!handle.is_open);
+    if (line > 0) {
+        CHECK(journal->line == line);
+        memset(&journal->line, UNTOUCHED, sizeof journal->line);
+    }
+    CHECK(IS_UNTOUCHED(filled));
+    test_closed(&handle);
+}
+
+static void test_resume(void)
+{
+    for (size_t entries = 0; entries <= ENTRIES; entries++) {
+        size_t next = entries < ENTRIES ? lines[entries + 1] : lines[entries] + 1;
+
+        for (size_t length = lines[entries]; length < next; length++) {
+            comes_back(length, entries, LIMIT);
+            comes_back(length, entries, 0);
+        }
+    }
+    comes_back(lines[ENTRIES], ENTRIES, ENTRIES + 1);
+    comes_not_back("", LIMIT + 16777216, JOLUNZA_NO_HEAD, 0);
+    comes_not_back("cbcast 1 group 7 size 3 window 4 member 1", LIMIT, JOLUNZA_NO_HEAD, 0);
+    comes_not_back("cbcast 1 group 7 size 3 window 4 member 3\n", LIMIT + 16777216, JOLUNZA_BAD_LINE, 1);
+    comes_not_back("cbcast 1 group 7 size 3 window 4 member 1\ntick 12\n\n", LIMIT, JOLUNZA_BAD_LINE, 3);
+    comes_not_back(worked, 16777217, JOLUNZA_BAD_LIMIT, 0);
+    comes_not_back(worked, ENTRIES - 1, JOLUNZA_TOO_LONG, 0);
+    comes_not_back("cbcast 1 group 7 size 3 window 4 member 1\ncast 1107010101000102796f\n", LIMIT, JOLUNZA_NOT_LEGAL, 2);
+    comes_not_back("cbcast 1 group 7 size 3 window 4 member 1\narrive 1107000100026869 0.1\ntick 12\n", 0, JOLUNZA_NOT_LEGAL, 3);
+}
+
 static void *cast_elsewhere(void *handle)
 {
     return cast(handle, "noon") == JOLUNZA_DONE ? handle : NULL;
@@ -968,6 +1098,8 @@ int main(void)
     test_window_kept_full();
     test_waiting();
     test_missing();
+    test_journal();
+    test_resume();
     test_moves();
     printf("%u passed, %u failed\n", passed, failed);
     return failed > 0;

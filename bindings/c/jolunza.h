@@ -53,7 +53,7 @@ enum jolunza_code {
     JOLUNZA_BAD_GROUP = 3,        /* open: the size is not 2 to 64, or the window not 1 to 256 */
     JOLUNZA_BAD_MEMBER = 4,       /* open, receive, help, missing, stable_of, acknowledged_by: a number that no member of the group
                                      has; help and missing: its own too */
-    JOLUNZA_BAD_LIMIT = 5,        /* open: the limit of the history is above 16,777,216 */
+    JOLUNZA_BAD_LIMIT = 5,        /* open, resume: the limit of the history is above 16,777,216 */
     JOLUNZA_PAYLOAD_TOO_LONG = 6, /* cast: more than 1,024 bytes; cast_burst: all payloads together */
     JOLUNZA_WINDOW_FULL = 7,      /* cast, cast_burst: wait for the others' statuses, keep the payloads, try again; a burst wants
                                      room for all its messages, and one of more than the window never has it */
@@ -63,11 +63,15 @@ enum jolunza_code {
     JOLUNZA_IMPOSSIBLE = 10,      /* receive: it says of this member what it never did; drop the frame */
     JOLUNZA_TOO_FAR = 11,         /* receive: beyond the window; drop the frame, it comes again */
     JOLUNZA_MALFORMED = 12,       /* receive: no frame; drop the bytes */
-    JOLUNZA_NONE_THERE = 13,      /* frame, event, entry: the index is not below the count; of a part: it is not loaded;
+    JOLUNZA_NONE_THERE = 13,      /* frame, event, entry, journal_line: the index is not below the count; of a part: it is not loaded;
                                      cast_burst: the lengths say more bytes than there are; waits_for: nothing waits */
     JOLUNZA_OVERLAP = 14,         /* receive: a part of the burst was received before, and a part was not; drop the frame */
     JOLUNZA_EMPTY_BURST = 15,     /* cast_burst: no payload */
-    JOLUNZA_BURST_TOO_LONG = 16   /* cast_burst: more than 32 payloads */
+    JOLUNZA_BURST_TOO_LONG = 16,  /* cast_burst: more than 32 payloads */
+    JOLUNZA_NO_HEAD = 17,         /* resume: no line is whole; nothing was written yet: open the member, begin the journal anew */
+    JOLUNZA_BAD_LINE = 18,        /* resume: a whole line is not what must stand there; no crash of a writer made it so */
+    JOLUNZA_TOO_LONG = 19,        /* resume: the journal has more entries than the limit of the history */
+    JOLUNZA_NOT_LEGAL = 20        /* resume: an entry that no call of the member adds */
 };
 
 /* A member, or nothing. */
@@ -138,6 +142,17 @@ typedef struct jolunza_delayed {
     uint32_t first;  /* the next message of `sender` that is to be delivered */
     uint32_t last;
 } jolunza_delayed;
+
+/* What a journal is of, and how much of it was read. */
+typedef struct jolunza_journal {
+    uint32_t group;
+    uint32_t size;
+    uint32_t window;
+    uint32_t me;
+    size_t entries; /* how many lines stand behind the head line and are whole */
+    size_t read;    /* how many bytes the whole lines have: cut the file behind them before anything is written */
+    size_t line;    /* after BAD_LINE and NOT_LEGAL, which fill nothing else: the number of the line, the head line having 1 */
+} jolunza_journal;
 
 /*
  * Opens a member; a handle that is open is closed first. After another code than JOLUNZA_DONE the handle is closed. The
@@ -268,6 +283,26 @@ uint32_t jolunza_waits_for(jolunza_handle *handle, uint32_t member, jolunza_dela
 
 /* The casts of another member that are missing, as rising ranges, as far as they fit; `count` tells how many there are. */
 uint32_t jolunza_missing(jolunza_handle *handle, uint32_t member, jolunza_range *ranges, size_t capacity, size_t *count);
+
+/*
+ * Opens the member whose journal these bytes are, as it was after the last whole line; a handle that is open is closed first.
+ * `history_max` is as in jolunza_open. After another code than JOLUNZA_DONE the handle is closed.
+ * Its entries and events can be read at once; a member without a history shows them until its next call. There are no frames,
+ * and nothing is loaded. What is read of the group is for the caller to compare with what it expects.
+ * NO_HEAD before BAD_LINE before BAD_LIMIT before TOO_LONG before NOT_LEGAL; or NO_MEMORY.
+ */
+uint32_t jolunza_resume(jolunza_handle *handle, const uint8_t *bytes, size_t length, size_t history_max,
+                        jolunza_journal *journal);
+
+/* The head line of the member's journal with its line feed, as much of it as fits; `length` tells how many bytes it has. */
+uint32_t jolunza_journal_head(jolunza_handle *handle, uint8_t *text, size_t capacity, size_t *length);
+
+/*
+ * The line of entry `index`, from 0, with its line feed, as much of it as fits; `length` tells how many bytes it has.
+ * After each call that added an entry (counts.entries grew; without a history counts.entries is not 0) write its line, and sync,
+ * before the frames are sent and the events handed out. NONE_THERE where there is no such entry, or NO_MEMORY.
+ */
+uint32_t jolunza_journal_line(jolunza_handle *handle, size_t index, uint8_t *text, size_t capacity, size_t *length);
 
 #ifdef __cplusplus
 }

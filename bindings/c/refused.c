@@ -91,6 +91,9 @@ static struct kind {
     {"jolunza_tick", 0},
     {"jolunza_help", 0},
     {"jolunza_missing", 0},
+    {"jolunza_journal_head", 0},
+    {"jolunza_journal_line", 0},
+    {"jolunza_resume", 0},
 };
 
 enum { KINDS = sizeof kinds / sizeof kinds[0] };
@@ -319,6 +322,53 @@ static void help(jolunza_handle *of_0, jolunza_handle *of_1, jolunza_handle *of_
     receive_all("jolunza_receive", of_0, sent, frames_of(of_2, sent));
 }
 
+/* The journal of member 2. */
+static struct {
+    uint8_t text[1 << 16];
+    size_t length, entries;
+} journal;
+
+/* Writes the journal of member 2. Without a history it tells the line of its last call alone, and the journal of the run before stays. */
+static void write_journal(jolunza_handle *of_2, size_t limit)
+{
+    uint8_t text[4096];
+    jolunza_counts counts;
+    size_t length, end;
+
+    TRY(of_2, jolunza_journal_head(of_2, text, sizeof text, &length));
+    memcpy(journal.text, text, length);
+    end = length;
+    MUST(jolunza_count(of_2, &counts) == JOLUNZA_DONE && counts.entries > 0);
+    for (size_t i = 0; i < counts.entries; i++) {
+        TRY(of_2, jolunza_journal_line(of_2, i, text, sizeof text, &length));
+        if (limit > 0) {
+            MUST(length <= sizeof text && length <= sizeof journal.text - end);
+            memcpy(journal.text + end, text, length);
+            end += length;
+            journal.length = end;
+            journal.entries = counts.entries;
+        }
+    }
+}
+
+/* Member 2 comes back by its journal, with the same time. A digest of it. */
+static uint64_t come_back(jolunza_handle *of_2, size_t limit)
+{
+    jolunza_handle back = JOLUNZA_CLOSED_HANDLE;
+    jolunza_journal told;
+    uint32_t time[SIZE], same[SIZE];
+    uint64_t ends;
+
+    write_journal(of_2, limit);
+    TRY(&back, jolunza_resume(&back, journal.text, journal.length, limit, &told));
+    MUST(told.me == 2 && told.entries == journal.entries && told.read == journal.length);
+    MUST(jolunza_time(of_2, time, SIZE) == JOLUNZA_DONE && jolunza_time(&back, same, SIZE) == JOLUNZA_DONE);
+    MUST(memcmp(time, same, sizeof time) == 0);
+    ends = digest_of(&back);
+    jolunza_close(&back);
+    return ends;
+}
+
 /* A run of members with this limit in which this many allocations are granted before the refusal: a digest of how they end. */
 static uint64_t run(size_t limit, long before_the_refusal)
 {
@@ -335,7 +385,7 @@ static uint64_t run(size_t limit, long before_the_refusal)
     repair(&of_0, &of_1);
     help(&of_0, &of_1, &of_2);
     MUST(jolunza_stable(&of_0, &stable) == JOLUNZA_DONE && stable == CASTS + CASTS / 4);
-    ends = digest_of(&of_0) ^ 3 * digest_of(&of_1) ^ 5 * digest_of(&of_2);
+    ends = digest_of(&of_0) ^ 3 * digest_of(&of_1) ^ 5 * digest_of(&of_2) ^ 7 * come_back(&of_2, limit);
     jolunza_close(&of_0);
     jolunza_close(&of_1);
     jolunza_close(&of_2);

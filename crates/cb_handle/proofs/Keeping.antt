@@ -2,7 +2,7 @@
 use Rattle.std.proofs.Common.{◌≡◌, ◌≢◌, ℕ, ◌==◌, ◌&&◌, not, ◌≤◌, Bool, true, false, List, [], ◌∷◌, ◌++◌, length, drop, map, Option, Some, None, refl, sym, ap, subst, ◌∙◌, arith, inl, inr}
 use Rattle.std.specs.Prelude.{if◌then◌else◌, nat_le}
 use Rattle.std.proofs.lemmas.Bool.{cases_Bool, ne_eqb}
-use Rattle.std.proofs.lemmas.List.{drop-map, drop_all, drop_at, length-map}
+use Rattle.std.proofs.lemmas.List.{append-nil, drop-map, drop_all, drop_at, length-map}
 use Rattle.cb_delay.specs.declared.message.Event.{Event}
 use Rattle.cb_history.specs.Events.{events}
 use Rattle.cb_history.specs.declared.history.Entry.{Entry}
@@ -14,7 +14,6 @@ use Rattle.cb_history.specs.View.{view}
 use Rattle.cb_member.specs.CoreMember.{Core, GoesOn as CoreGoesOn, StandsFor, grown_by, unlimited}
 use Rattle.cb_handle.specs.Kept.{IsKept, KeptMember, OnEach, Stands, gone, limit_for, state_with}
 use Rattle.cb_handle.specs.Calling.{GoesOn}
-use Rattle.cb_handle.proofs.Adding.{joined}
 use Rattle.cb_handle.proofs.Limits.{is_some}
 
 -- a call has added this entry, if any, and events behind those that were there; without a history those of before are gone
@@ -29,6 +28,10 @@ pub record Adds (call : Call) (old new : KeptMember) (after : List Event) (entry
   pub noted : (es : List EntryFields) → StandsFor es old.core → entry_by (unlimited old.core.seat es) call ≡ entry
   pub same : OnEach old (λ m. entry_by m call ≡ entry)
   pub fits : old.limit ≢ 0 → length (and_entry old.entries entry) ≤ old.limit
+
+pub joined : (es : List EntryFields) (o : Option EntryFields) → es ++ and_entry [] o ≡ and_entry es o
+joined es None = append-nil es
+joined es (Some e) = refl
 
 no_events : (seat : Identity) → events seat [] ≡ []
 unfolding view

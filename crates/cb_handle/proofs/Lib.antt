@@ -2,7 +2,6 @@ mod HandleValues
 mod HeldDrop
 pub mod Placing
 pub mod Showing
-pub mod Adding
 pub mod Limits
 pub mod Keeping
 pub mod Forgetting

@@ -24,7 +24,7 @@ use Rattle.cb_handle.specs.Frames.{frames_of}
 use Rattle.cb_handle.specs.Kept.{IsHistory, IsKept, KeptMember}
 use Rattle.cb_handle.specs.Calling.{AreLoaded, HasReceivedLoaded, HasReceivedToSend, OnEach, RefusesBytes, RefusesLoaded, Tells, received_row, row_of}
 use Rattle.cb_handle.specs.Parts.{AreReceived, OneMore, OnePart, HasReceivedBehind, HasReceivedParts, Leaves, RefusesParts, Stops, behind, held_behind}
-use Rattle.cb_handle.proofs.Adding.{joined}
+use Rattle.cb_handle.proofs.Keeping.{joined}
 
 -- ---- what is left to be read
 

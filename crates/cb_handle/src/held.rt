@@ -91,13 +91,22 @@ impl Held {
             return Err(OpenFault::BadGroup);
         };
         match Kept::new(alloc, group, me, history_max) {
-            Ok(kept) => Ok(Held {
-                kept,
-                frames: Frames::Several(Vec::new(alloc)),
-                loaded: Bytes::new(),
-                received: ReceivedBlock::new(alloc),
-            }),
+            Ok(kept) => Ok(Held::of(alloc, kept)),
             Err(fault) => Err(OpenFault::BadNew(fault)),
+        }
+    }
+
+    /// This member, no frames, and nothing loaded.
+    pub fn of(alloc: Global, kept: Kept) -> Held
+        ensures kept { result.kept ≡ kept }
+        ensures frames { frames_of result.frames ≡ [] }
+        ensures loaded { result.loaded ≡ [] }
+    {
+        Held {
+            kept,
+            frames: Frames::Several(Vec::new(alloc)),
+            loaded: Bytes::new(),
+            received: ReceivedBlock::new(alloc),
         }
     }
 

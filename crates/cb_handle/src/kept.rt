@@ -12,13 +12,13 @@ ghost use Rattle.cb_history.specs.State.{missing_in, stable_in, stable_of_in, ti
 ghost use Rattle.cb_member.specs.Casting.{RefusesBurstExactly, RefusesExactly};
 ghost use Rattle.cb_member.specs.Readings.{acknowledged_by_in, keeps_window_full_in, waiting_in, waits_for_in};
 ghost use Rattle.cb_member.specs.CoreCalls.{MayCast};
-ghost use Rattle.cb_handle.specs.Kept.{OnEach, seat_of, events_of, entries_of};
+ghost use Rattle.cb_handle.specs.Kept.{IsKept, OnEach, seat_of, events_of, entries_of, kept_of};
 ghost use Rattle.cb_handle.specs.Opening.{IsNew};
 ghost use Rattle.cb_handle.specs.Calling.{HasCast, HasTicked};
 ghost use Rattle.cb_handle.specs.Parts.{HasReceivedBehind};
 
 use bytes::Bytes;
-use cb_history::LONGEST_HISTORY;
+use cb_history::{Identity, LONGEST_HISTORY};
 use cb_member::{
     ArriveRefusal, BurstRefusal, CastRefusal, CoreMember, Delayed, Entry, Event, Group, HelpFault,
     MissingFault, NewFault, Outgoing, Range, Received, TickRefusal, VectorTime,
@@ -72,6 +72,26 @@ impl Kept {
             }),
             Err(fault) => Err(fault),
         }
+    }
+
+    /// The member of this core, which stands for these entries; where it keeps no history, they can be read until its next call.
+    pub fn resumed(core: CoreMember, limit: usize, entries: Vec<Entry>, events: Vec<Event>) -> Kept
+        requires { IsKept (kept_of core limit entries.items events.items) }
+        ensures { result ≡ kept_of core limit entries.items events.items }
+    {
+        Kept {
+            core,
+            limit,
+            entries,
+            events,
+        }
+    }
+
+    /// The group, and which of its members this is.
+    pub fn seat(&self) -> Identity
+        ensures { result ≡ seat_of self.now }
+    {
+        self.core.seat()
     }
 
     /// Casts a message of this payload, and hands out its frame. After a refusal nothing has changed.

@@ -16,6 +16,7 @@ mod reading;
 mod received;
 mod rows;
 
+pub use copies::copy_front;
 pub use frames::Frames;
 pub use handle::{Handle, closed, put, take};
 pub use held::{Held, LoadedRefusal, NoneThere, OpenFault, PayloadsRefusal};

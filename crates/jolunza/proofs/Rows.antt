@@ -12,8 +12,10 @@ use Rattle.cb_history.specs.declared.answer.MissingFault.TheVariants as missings
 use Rattle.cb_handle.specs.declared.held.LoadedRefusal.TheVariants as loadeds
 use Rattle.cb_handle.specs.declared.held.OpenFault.TheVariants as opens
 use Rattle.cb_handle.specs.declared.held.PayloadsRefusal.TheVariants as payloads
+use Rattle.cb_handle_journal.specs.declared.fault.LineRefusal.TheVariants as lines
+use Rattle.cb_handle_journal.specs.declared.fault.ResumeFault.TheVariants as resumes
 use Rattle.jolunza.specs.declared.code.TheConstants.{CLOSED, NONE_THERE}
-use Rattle.jolunza.specs.Codes.{open_code, cast_code, burst_code, payloads_code, arrive_code, loaded_code, tick_code, help_code, missing_code, answer_code}
+use Rattle.jolunza.specs.Codes.{open_code, cast_code, burst_code, payloads_code, arrive_code, loaded_code, tick_code, help_code, missing_code, answer_code, resume_code, line_code}
 
 done : answer_code cast_code (Ok tt) ≡ 0
 done = refl
@@ -119,3 +121,27 @@ history_full_at_a_burst = refl
 
 no_memory_for_a_burst : burst_code bursts.NoMemory ≡ 2
 no_memory_for_a_burst = refl
+
+no_head : resume_code resumes.NoHead ≡ 17
+no_head = refl
+
+bad_line : resume_code (resumes.BadLine 2) ≡ 18
+bad_line = refl
+
+too_long : resume_code resumes.TooLong ≡ 19
+too_long = refl
+
+not_legal : resume_code (resumes.NotLegal 2) ≡ 20
+not_legal = refl
+
+bad_limit_to_resume : resume_code resumes.BadLimit ≡ 5
+bad_limit_to_resume = refl
+
+no_memory_to_resume : resume_code resumes.NoMemory ≡ 2
+no_memory_to_resume = refl
+
+no_line_there : line_code lines.NoneThere ≡ 13
+no_line_there = refl
+
+no_memory_for_a_line : line_code lines.NoMemory ≡ 2
+no_memory_for_a_line = refl

@@ -5,6 +5,7 @@ use Rattle.cb_history.specs.declared.answer.CastRefusal.{CastRefusal}
 use Rattle.cb_history.specs.declared.answer.ArriveRefusal.{ArriveRefusal}
 use Rattle.cb_history.specs.declared.answer.TickRefusal.{TickRefusal}
 use Rattle.cb_history.specs.declared.answer.HelpFault.{HelpFault}
+use Rattle.cb_history.specs.Facts.{EntryFields}
 use Rattle.cb_history.specs.Group.{Parameters}
 use Rattle.cb_history.specs.Known.{ranges_of}
 use Rattle.cb_history.specs.State.{missing_in, stable_of_in, RefusesTick, RefusesHelp}
@@ -19,12 +20,20 @@ use Rattle.cb_handle.specs.declared.rows.Received.{Received}
 use Rattle.cb_handle.specs.Copies.{copied}
 use Rattle.cb_handle.specs.Entries.{delayed_row, range_row}
 use Rattle.cb_handle.specs.Opening.{RefusesToOpen, IsNewOf}
-use Rattle.cb_handle.specs.Calling.{OnEach, seat_held, HasCastToSend, HasReceivedToSend, HasTickedToSend, HasHelpToSend, RefusesBytes, HasReceivedLoaded, RefusesLoaded, with_loaded}
+use Rattle.cb_handle.specs.Calling.{OnEach, entries_held, seat_held, HasCastToSend, HasReceivedToSend, HasTickedToSend, HasHelpToSend, RefusesBytes, HasReceivedLoaded, RefusesLoaded, with_loaded}
 use Rattle.cb_handle.specs.Parts.{HasReceivedParts, RefusesParts}
 use Rattle.cb_handle.specs.declared.held.PayloadsRefusal.{PayloadsRefusal}
 use Rattle.cb_handle.specs.Payloads.{AreThere, RefusesPayloads, burst_in}
+use Rattle.cb_lines.specs.Text.{entry_line}
+use Rattle.cb_journal.specs.Journal.{head_line}
+use Rattle.cb_handle_journal.specs.declared.fault.ResumeFault.{ResumeFault}
+use Rattle.cb_handle_journal.specs.declared.fault.ResumeFault.TheVariants as resumes
+use Rattle.cb_handle_journal.specs.declared.resuming.Resumed.{Resumed}
+use Rattle.cb_handle_journal.specs.Lines.{ShowsLine}
+use Rattle.cb_handle_journal.specs.Resuming.{IsResumed, RefusesToResume}
 use Rattle.jolunza.specs.declared.code.TheConstants.{DONE, CLOSED, NO_MEMORY, BAD_MEMBER, NONE_THERE}
-use Rattle.jolunza.specs.Codes.{open_code, cast_code, payloads_code, arrive_code, loaded_code, tick_code, help_code}
+use Rattle.jolunza.specs.declared.journal.Journal.{Journal}
+use Rattle.jolunza.specs.Codes.{open_code, cast_code, payloads_code, arrive_code, loaded_code, tick_code, help_code, resume_code}
 
 -- a closed handle stays closed and answers so; an open one stays open, and what it holds does this
 abbrev pub Calls : (Held → Held → ℕ → Type 0) → Option Held → Option Held → ℕ → Type 0
@@ -117,3 +126,54 @@ ShowsDelayed member delayed held code = OnEach held (λ m. ShowsAt (λ d. delaye
 abbrev pub Opens : Parameters → ℕ → ℕ → Option Held → ℕ → Type 0
 Opens group me limit (Some held) code = (code ≡ DONE) × IsNewOf group me limit held
 Opens group me limit None code = (fault : OpenFault) × ((code ≡ open_code fault) × RefusesToOpen group me limit fault)
+
+-- ---- journals
+
+-- what a journal is of, and how much of it was read
+abbrev pub journal_row : Held → ℕ → Journal
+journal_row held read = record {
+  group = (seat_held held).group.number;
+  size = (seat_held held).group.size;
+  window = (seat_held held).group.window;
+  me = (seat_held held).me;
+  entries = length (entries_held held);
+  read = read;
+  line = 0;
+}
+
+-- the number of the line at fault is filled in, and nothing else
+abbrev pub with_fault : ResumeFault → Journal → Journal
+with_fault resumes.NoHead journal = journal
+with_fault (resumes.BadLine line) journal = record journal { line = line }
+with_fault resumes.BadLimit journal = journal
+with_fault resumes.TooLong journal = journal
+with_fault (resumes.NotLegal line) journal = record journal { line = line }
+with_fault resumes.NoMemory journal = journal
+
+-- the code and the line tell why no member came back by these bytes
+pub record TellsFault (bytes : List ℕ) (limit : ℕ) (journal new_journal : Journal) (code : ℕ) : Type 0 where
+  pub fault : ResumeFault
+  pub code_is : code ≡ resume_code fault
+  pub told : new_journal ≡ with_fault fault journal
+  pub refuses : RefusesToResume bytes limit fault
+
+-- the handle holds the member whose journal the bytes are, and what they are of is filled in; or it holds nothing
+abbrev pub Resumes : List ℕ → ℕ → Journal → Journal → Option Held → ℕ → Type 0
+Resumes bytes limit journal new_journal (Some held) code = (code ≡ DONE) × IsResumed bytes limit held new_journal.read × (new_journal ≡ journal_row held new_journal.read)
+Resumes bytes limit journal new_journal None code = TellsFault bytes limit journal new_journal code
+
+-- a handle is opened over a member that came back, and its journal is told; or there is no place for it in memory, and all is as it was
+abbrev pub Holds : Resumed → Option Held → Option Held → Journal → Journal → ℕ → Type 0
+Holds resumed before after journal new_journal code =
+    ((code ≡ DONE) × (after ≡ Some resumed.held) × (new_journal ≡ journal_row resumed.held resumed.read))
+    ⊎ ((code ≡ NO_MEMORY) × (after ≡ before) × (new_journal ≡ journal))
+
+-- the head line is shown, or there was no memory for it
+pub record ShowsHead (text new_text : List ℕ) (count : ℕ) (held : Held) (code : ℕ) : Type 0 where
+  pub done : code ≡ DONE → ShowsLine (head_line (seat_held held)) text new_text count
+  pub codes : (code ≡ DONE) ⊎ (code ≡ NO_MEMORY)
+
+-- the line of this entry is shown, or there is no such entry, or there was no memory for the line
+abbrev pub ShowsEntryLine : Option EntryFields → List ℕ → List ℕ → ℕ → ℕ → Type 0
+ShowsEntryLine None text new_text count code = code ≡ NONE_THERE
+ShowsEntryLine (Some entry) text new_text count code = ((code ≡ DONE) × ShowsLine (entry_line entry) text new_text count) ⊎ (code ≡ NO_MEMORY)

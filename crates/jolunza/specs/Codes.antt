@@ -20,7 +20,11 @@ use Rattle.cb_handle.specs.declared.held.OpenFault.{OpenFault}
 use Rattle.cb_handle.specs.declared.held.OpenFault.TheVariants as opens
 use Rattle.cb_handle.specs.declared.held.PayloadsRefusal.{PayloadsRefusal}
 use Rattle.cb_handle.specs.declared.held.PayloadsRefusal.TheVariants as payloads
-use Rattle.jolunza.specs.declared.code.TheConstants.{DONE, NO_MEMORY, BAD_GROUP, BAD_MEMBER, BAD_LIMIT, PAYLOAD_TOO_LONG, WINDOW_FULL, HISTORY_FULL, OTHER_GROUP, IMPOSSIBLE, TOO_FAR, MALFORMED, NONE_THERE, OVERLAP, EMPTY_BURST, BURST_TOO_LONG}
+use Rattle.cb_handle_journal.specs.declared.fault.LineRefusal.{LineRefusal}
+use Rattle.cb_handle_journal.specs.declared.fault.LineRefusal.TheVariants as lines
+use Rattle.cb_handle_journal.specs.declared.fault.ResumeFault.{ResumeFault}
+use Rattle.cb_handle_journal.specs.declared.fault.ResumeFault.TheVariants as resumes
+use Rattle.jolunza.specs.declared.code.TheConstants.{DONE, NO_MEMORY, BAD_GROUP, BAD_MEMBER, BAD_LIMIT, PAYLOAD_TOO_LONG, WINDOW_FULL, HISTORY_FULL, OTHER_GROUP, IMPOSSIBLE, TOO_FAR, MALFORMED, NONE_THERE, OVERLAP, EMPTY_BURST, BURST_TOO_LONG, NO_HEAD, BAD_LINE, TOO_LONG, NOT_LEGAL}
 
 abbrev pub open_code : OpenFault → ℕ
 open_code opens.BadGroup = BAD_GROUP
@@ -74,6 +78,18 @@ missing_code missings.NoMemory = NO_MEMORY
 
 abbrev pub reading_code : NoneThere → ℕ
 reading_code fault = NONE_THERE
+
+abbrev pub resume_code : ResumeFault → ℕ
+resume_code resumes.NoHead = NO_HEAD
+resume_code (resumes.BadLine line) = BAD_LINE
+resume_code resumes.BadLimit = BAD_LIMIT
+resume_code resumes.TooLong = TOO_LONG
+resume_code (resumes.NotLegal line) = NOT_LEGAL
+resume_code resumes.NoMemory = NO_MEMORY
+
+abbrev pub line_code : LineRefusal → ℕ
+line_code lines.NoneThere = NONE_THERE
+line_code lines.NoMemory = NO_MEMORY
 
 -- what is answered where nothing is told but that it is done
 abbrev pub answer_code : {R : Type 0} → (R → ℕ) → Result (Unit {0}) R → ℕ

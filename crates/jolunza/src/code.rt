@@ -1,9 +1,10 @@
 //! The codes that the calls answer.
 
 ghost use Rattle.std.specs.Prelude.{◌≡◌};
-ghost use Rattle.jolunza.specs.Codes.{answer_code, open_code, cast_code, burst_code, payloads_code, arrive_code, loaded_code, tick_code, help_code, missing_code, reading_code};
+ghost use Rattle.jolunza.specs.Codes.{answer_code, open_code, cast_code, burst_code, payloads_code, arrive_code, loaded_code, tick_code, help_code, missing_code, reading_code, resume_code, line_code};
 
 use cb_handle::{LoadedRefusal, NoneThere, OpenFault, PayloadsRefusal};
+use cb_handle_journal::{LineRefusal, ResumeFault};
 use cb_member::{
     ArriveRefusal, BurstRefusal, CastRefusal, HelpFault, MissingFault, NewFault, TickRefusal,
 };
@@ -43,6 +44,14 @@ pub const OVERLAP: u32 = 14;
 pub const EMPTY_BURST: u32 = 15;
 
 pub const BURST_TOO_LONG: u32 = 16;
+
+pub const NO_HEAD: u32 = 17;
+
+pub const BAD_LINE: u32 = 18;
+
+pub const TOO_LONG: u32 = 19;
+
+pub const NOT_LEGAL: u32 = 20;
 
 pub fn of_open(fault: OpenFault) -> u32
     ensures { result ≡ open_code fault }
@@ -149,5 +158,27 @@ pub fn of_reading(answer: Result<(), NoneThere>) -> u32
     match answer {
         Ok(()) => DONE,
         Err(NoneThere) => NONE_THERE,
+    }
+}
+
+pub fn of_resume(fault: ResumeFault) -> u32
+    ensures { result ≡ resume_code fault }
+{
+    match fault {
+        ResumeFault::NoHead => NO_HEAD,
+        ResumeFault::BadLine { .. } => BAD_LINE,
+        ResumeFault::BadLimit => BAD_LIMIT,
+        ResumeFault::TooLong => TOO_LONG,
+        ResumeFault::NotLegal { .. } => NOT_LEGAL,
+        ResumeFault::NoMemory => NO_MEMORY,
+    }
+}
+
+pub fn of_line(refusal: LineRefusal) -> u32
+    ensures { result ≡ line_code refusal }
+{
+    match refusal {
+        LineRefusal::NoneThere => NONE_THERE,
+        LineRefusal::NoMemory => NO_MEMORY,
     }
 }

@@ -14,19 +14,23 @@ ghost use Rattle.cb_handle.specs.Events.{ShowsEvent, ShowsEvents};
 ghost use Rattle.cb_handle.specs.Entries.{ShowsEntry};
 ghost use Rattle.cb_handle.specs.Calling.{OnEach, counts_of, entries_held, events_held};
 ghost use Rattle.jolunza.specs.declared.code.TheConstants.{DONE};
+ghost use Rattle.jolunza.specs.Calls.{Holds, Resumes, ShowsEntryLine, ShowsHead};
 ghost use Rattle.jolunza.specs.Calls.{Calls, Casts, CastsBurst, Receives, Loads, ReceivesLoaded, ReceivesParts, Ticks, Helps, Reads, IsDone, ShowsAcknowledged, ShowsAt, ShowsDelayed, ShowsMissing, ShowsStable, Opens};
 
 mod code;
+mod journal;
 #[cfg(test)]
 mod tests;
 mod told;
 
 use crate::code::{CLOSED, DONE, NO_MEMORY};
+use crate::journal::{Journal, tell_fault, tell_head, tell_line};
 use crate::told::{tell_count, tell_delayed, tell_loaded, tell_missing, tell_parts, tell_received};
 use cb_handle::{
     Counts, Delayed, EntryHead, EventHead, FrameHead, Handle, Held, Name, Range, Received, put,
     take,
 };
+use cb_handle_journal::{Resumed, journal_head, journal_line, resume};
 use std::alloc::{AllocError, Global};
 
 /// Opens a member, without a history where that may have no entries. A handle that is open is closed first.
@@ -480,4 +484,77 @@ pub extern "C" fn jolunza_missing(
     let answer = held.missing(member, ranges);
     put(handle, held);
     tell_missing(answer, count)
+}
+
+/// Opens the member whose journal these bytes are, as it was after the last whole line. A handle that is open is closed first.
+#[unsafe(no_mangle)]
+pub extern "C" fn jolunza_resume(
+    alloc: Global,
+    handle: &mut Handle,
+    bytes: &[u8],
+    history_max: usize,
+    journal: &mut Journal,
+) -> u32
+    ensures { Resumes bytes.now history_max journal.old journal.new handle.new.held result }
+{
+    jolunza_close(alloc, handle);
+    match resume(alloc, bytes, history_max) {
+        Ok(resumed) => hold(alloc, handle, resumed, journal),
+        Err(fault) => tell_fault(fault, journal),
+    }
+}
+
+/// Opens a closed handle over a member that came back, and tells of its journal.
+fn hold(alloc: Global, handle: &mut Handle, resumed: Resumed, journal: &mut Journal) -> u32
+    ensures { Holds resumed handle.old.held handle.new.held journal.old journal.new result }
+{
+    let Resumed { held, read } = resumed;
+    let row = Journal::of(&held, read);
+    let Ok(boxed) = Box::new(alloc, held) else {
+        return NO_MEMORY;
+    };
+    put(handle, boxed);
+    *journal = row;
+    DONE
+}
+
+/// The head line of the member's journal with its line feed, as far as it fits.
+#[unsafe(no_mangle)]
+pub extern "C" fn jolunza_journal_head(
+    alloc: Global,
+    handle: &mut Handle,
+    text: &mut [u8],
+    length: &mut usize,
+) -> u32
+    ensures shows { Calls (Reads (ShowsHead text.old text.new length.new))
+        handle.old.held handle.new.held result }
+    ensures same { result ≢ DONE → (text.new ≡ text.old) × (length.new ≡ length.old) }
+{
+    let Some(held) = take(alloc, handle) else {
+        return CLOSED;
+    };
+    let answer = journal_head(alloc, &held, text);
+    put(handle, held);
+    tell_head(answer, length)
+}
+
+/// The line of entry `index` with its line feed, as far as it fits.
+#[unsafe(no_mangle)]
+pub extern "C" fn jolunza_journal_line(
+    alloc: Global,
+    handle: &mut Handle,
+    index: usize,
+    text: &mut [u8],
+    length: &mut usize,
+) -> u32
+    ensures shows { Calls (Reads (λ held. ShowsEntryLine (slice_get (entries_held held) index)
+        text.old text.new length.new)) handle.old.held handle.new.held result }
+    ensures same { result ≢ DONE → (text.new ≡ text.old) × (length.new ≡ length.old) }
+{
+    let Some(held) = take(alloc, handle) else {
+        return CLOSED;
+    };
+    let answer = journal_line(alloc, &held, index, text);
+    put(handle, held);
+    tell_line(answer, length)
 }

@@ -6,6 +6,7 @@ mod bursts;
 mod codes;
 mod forgetting;
 mod helping;
+mod journals;
 mod loading;
 mod parts;
 mod reading;
