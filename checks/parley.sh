@@ -1,8 +1,8 @@
 #!/usr/bin/env bash
-# Three parleys talk over UDP. Each loses 30 of 100 frames and holds the others back; one is killed twice and comes back by its
-# journal. Every line has to be on every screen and no answer before its question; the parts of the trace are joined and audited.
-# Then one comes back without a journal, is told so, and all go on in a new group; and one says more than its window takes. The
-# last line is `N passed, M failed`.
+# Three parleys talk over UDP. Each loses 30 of 100 frames and holds the others back; one is killed twice, once in the midst of a line,
+# and comes back by its journal. Every line has to be on every screen and no answer before its question; the parts of the trace, of
+# which the journal is one, are joined and audited. Then one comes back without a journal, is told so, and all go on in a new group,
+# where one comes back once more; and one says more than its window takes. The last line is `N passed, M failed`.
 # It wants cargo, python3 and the library (bindings/build.sh, or JOLUNZA_LIB). CONFER=FILE names a built confer; without it the
 # proved one of crates/confer/out is taken, or else one is compiled without proofs. KEEP=FOLDER keeps all that was written.
 set -u
@@ -89,13 +89,20 @@ is_in_order() { awk '/^\[/ { split($2, n, "."); if (n[2] != last[n[1]] + 1) bad 
 has_no_orphan() { awk '/^\[/ { if ($3 == "re" && !($4 in seen)) bad = 1; seen[$2] = 1 } END { exit bad }' "$1"; }
 are_same_lines() { cmp <(grep '^\[' "$1" | sort) <(grep '^\[' "$2" | sort); }
 refuses() { ! "$@" > /dev/null 2>&1; }
+# the part of a trace that this journal of a member is
+part_of() {
+    head -n 1 "$1" | cut -d ' ' -f 1-8
+    echo "member $(head -n 1 "$1" | cut -d ' ' -f 10) entries $(($(wc -l < "$1") - 1))"
+    tail -n +2 "$1"
+    echo end
+}
 
 : > expected
 mkfifo typed.0 typed.1 typed.2
 exec 5<> typed.0 6<> typed.1 7<> typed.2
 begin 0 screen.0
 begin 1 screen.1 --journal journal.1
-begin 2 screen.2
+begin 2 screen.2 --journal journal.2
 
 # a question, its answer, and many lines at once
 type 0 '/room plan'
@@ -107,8 +114,8 @@ for line in 1 2 3 4 5 6 7 8; do
     says 1 "line $line of 1"
     says 2 "line $line of 2"
 done
-# killed when its lines are in its journal: most frames are still on their way, or lost
-check 'what was typed is in the journal' within 20 has_count 9 '^say' journal.1
+# killed when its lines are noted: most frames are still on their way, or lost
+check 'what was typed is noted' within 20 has_count 9 '^say' journal.1
 kill -9 "${pids[1]}" && wait "${pids[1]}" 2> /dev/null
 says 0 'while 1 is away'
 type 2 '/room other'
@@ -117,6 +124,8 @@ begin 1 screen.1.again --journal journal.1
 says 1 'back'
 check 'it goes on' within 20 has_count 10 '^say' journal.1
 kill -9 "${pids[1]}" && wait "${pids[1]}" 2> /dev/null
+printf 'say 0104' >> journal.1
+printf 'arrive 1107' >> journal.1.7
 begin 1 screen.1.last --journal journal.1
 says 1 '/re 0.1 or at one'
 within 60 has_lines screen.0 && within 60 has_lines screen.2 && within 60 has_lines screen.1.last
@@ -147,6 +156,7 @@ check '/why tells that nothing waits' within 5 grep -qx 'nothing waits here' scr
 sleep 3
 for me in 0 1 2; do type $me "/trace part.$me"; done
 check 'each writes its part' within 10 grep -qs '^end$' part.0 && within 10 grep -qs '^end$' part.1 && within 10 grep -qs '^end$' part.2
+check 'the journal is its part' cmp part.1 <(part_of journal.1.7)
 joins() { "$programs/join_traces" "$@" > trace; }
 check 'two parts of one member are no trace' refuses joins part.2 part.0 part.0
 check 'the parts are one trace' joins part.2 part.0 part.1
@@ -166,6 +176,11 @@ for me in 1 0 2; do type $me '/group 8'; done
 says 0 'here'
 check 'what was said in vain is said again' within 20 grep -qF '1.1 is anybody there?' screen.2
 check 'all go on' within 20 grep -qF '0.1 here' screen.1.anew
+check 'the new group has a journal of its own' grep -qx 'cbcast 1 group 8 size 3 window 32 member 2' journal.2.8
+kill -9 "${pids[2]}" && wait "${pids[2]}" 2> /dev/null
+begin 2 screen.2.back --journal journal.2
+check 'it comes back there' within 20 grep -qx 'parley: member 2 of 3 in group 8, back by its journal' screen.2.back.said
+check 'and shows the lines of both groups' within 20 are_same_lines screen.2 screen.2.back
 for me in 0 1 2; do type $me /quit; done
 wait "${pids[@]}"
 check 'all leave, with nothing left unsaid' refuses grep -F 'not known to be' screen.*.said
@@ -178,7 +193,7 @@ check 'a full window is said' within 20 grep -qF 'parley: WindowFull: ' screen.0
 type 0 '/why'
 check '/why names who keeps the window full' within 5 \
     grep -qx '2 keeps your window full: it is known to have 0 of your 32 lines' screen.0.alone
-check 'what waits is in the journal' within 20 has_count 40 '^say' journal.0
+check 'what waits is noted' within 20 has_count 40 '^say' journal.0
 kill -9 "${pids[0]}" && wait "${pids[0]}" 2> /dev/null
 begin 0 screen.0.back --group 9 --journal journal.0
 begin 1 screen.1.late --group 9

@@ -9,6 +9,8 @@ after which the member is as it was.
         for frame in member.frames():
             send(frame.to, frame.bytes)  # `to` is None for all others
 
+A `Journal` has what a member did in a file, and brings it back after its process was killed.
+
 Linux on x86-64, Python 3.9 or later, the standard library alone.
 """
 
@@ -16,6 +18,7 @@ from __future__ import annotations
 
 import ctypes
 import enum
+import fcntl
 import functools
 import os
 import pathlib
@@ -52,6 +55,10 @@ class Code(enum.IntEnum):
     OVERLAP = 14
     EMPTY_BURST = 15
     BURST_TOO_LONG = 16
+    NO_HEAD = 17
+    BAD_LINE = 18
+    TOO_LONG = 19
+    NOT_LEGAL = 20
 
 
 class Kind(enum.IntEnum):
@@ -63,14 +70,35 @@ class Kind(enum.IntEnum):
 
 
 class Refusal(Exception):
-    """A call was refused, and nothing has changed."""
+    """A call was refused, and nothing has changed. Of a journal BAD_LINE and NOT_LEGAL tell the line, the head line being 1."""
 
-    def __init__(self, code: Code) -> None:
-        super().__init__(code)
-        self.code = code
+    def __init__(self, code: Code, line: Optional[int] = None) -> None:
+        super().__init__(code, line)
+        self.code, self.line = code, line
 
     def __str__(self) -> str:
-        return self.code.name
+        return self.code.name if self.line is None else f"{self.code.name} {self.line}"
+
+
+class Settings(NamedTuple):
+    """Which member it is. Group number, size and window are the same at each member of a group."""
+
+    group: int
+    size: int
+    window: int
+    me: int
+
+
+class OtherJournal(Exception):
+    """The journal is of another member, or of another group number, size or window: of `settings`."""
+
+    def __init__(self, settings: Settings) -> None:
+        super().__init__(settings)
+        self.settings = settings
+
+
+class LeftOut(Exception):
+    """Of a member without a history: between two calls nothing was appended to its journal, and the entry of the first of them is lost."""
 
 
 class Name(NamedTuple):
@@ -131,6 +159,16 @@ class Awaited(NamedTuple):
     numbers: range
 
 
+class Resumed(NamedTuple):
+    """A member that came back by its journal. `settings` are those of the journal, for the caller to compare with what it expects. It has
+    so many entries, and so many bytes of it were read: the file is to be cut behind them before anything is written."""
+
+    member: Member
+    settings: Settings
+    entries: int
+    read: int
+
+
 class Delayed(NamedTuple):
     """The first message of a member that waits, and what it waits for; where that is None all of its past is delivered here, and it is
     delivered with the next cast that is received."""
@@ -181,6 +219,18 @@ class jolunza_delayed(Structure):
         ("sender", c_uint32),
         ("first", c_uint32),
         ("last", c_uint32),
+    ]
+
+
+class jolunza_journal(Structure):
+    _fields_ = [
+        ("group", c_uint32),
+        ("size", c_uint32),
+        ("window", c_uint32),
+        ("me", c_uint32),
+        ("entries", c_size_t),
+        ("read", c_size_t),
+        ("line", c_size_t),
     ]
 
 
@@ -297,6 +347,24 @@ FUNCTIONS: dict[str, tuple[Any, list[tuple[str, Any]]]] = {
             ("count", POINTER(c_size_t)),
         ],
     ),
+    "jolunza_resume": (
+        c_uint32,
+        [
+            HANDLE,
+            ("bytes", c_char_p),
+            ("length", c_size_t),
+            ("history_max", c_size_t),
+            ("journal", POINTER(jolunza_journal)),
+        ],
+    ),
+    "jolunza_journal_head": (
+        c_uint32,
+        [HANDLE, ("text", POINTER(c_uint8)), ("capacity", c_size_t), ("length", POINTER(c_size_t))],
+    ),
+    "jolunza_journal_line": (
+        c_uint32,
+        [HANDLE, ("index", c_size_t), ("text", POINTER(c_uint8)), ("capacity", c_size_t), ("length", POINTER(c_size_t))],
+    ),
 }
 
 
@@ -338,7 +406,7 @@ class Member:
     """Opens a member; `close`, the end of a `with`, or its last use frees it. It may be used by several threads, one call after another.
 
     Of the same group number, size and window each member number is opened once in the world, and so not in a forked process as well.
-    Who wants to come back opens it anew and repeats the calls that changed it.
+    Who wants to come back writes a `Journal`.
 
     Its history has at most `history_max` entries. With 0 it keeps none: its memory stays bounded, HISTORY_FULL never comes, and events
     and entries are those of the last call of `cast`, `cast_burst`, `receive` or `tick` that was done.
@@ -348,13 +416,33 @@ class Member:
     _MANY = 16
 
     def __init__(self, group: int, size: int, window: int, me: int, history_max: int = 1_000_000) -> None:
-        self._handle = byref(jolunza_handle())
-        self._lock = threading.Lock()
-        self._library = library()
+        self._prepare(history_max)
         numbers = [_number(value, 32) for value in (group, size, window, me)]
         self._call("open", *numbers, _number(history_max, 64))
         self._size = size
+
+    @classmethod
+    def resume(cls, journal: Given, history_max: int = 1_000_000) -> Resumed:
+        """The member whose journal these bytes are, as it was after the last whole line: its time, its events, its history, and each frame
+        that it will send. There are no frames, and `events` has all, without a history until the next call. The first of NO_HEAD, after
+        which the journal is to be begun anew, BAD_LINE, BAD_LIMIT, TOO_LONG and NOT_LEGAL that holds is raised."""
+        member, given, read = cls.__new__(cls), _given(journal), jolunza_journal()
+        member._prepare(history_max)
+        try:
+            member._call("resume", given, len(given), _number(history_max, 64), byref(read))
+        except Refusal as refusal:
+            tells_line = refusal.code in (Code.BAD_LINE, Code.NOT_LEGAL)
+            raise Refusal(refusal.code, read.line if tells_line else None) from None
+        member._size = read.size
+        return Resumed(member, Settings(read.group, read.size, read.window, read.me), read.entries, read.read)
+
+    def _prepare(self, history_max: int) -> None:
+        self._handle = byref(jolunza_handle())
+        self._lock = threading.Lock()
+        self._library = library()
         self.keeps_history = history_max > 0
+        # without a history: how many entries were added since it was opened or came back
+        self._entered = 0
         self._bytes = (c_uint8 * (self._MANY * LONGEST_FRAME))()
         self._view = memoryview(self._bytes)
 
@@ -379,7 +467,7 @@ class Member:
         """Casts a message. The one frame to be sent goes to all others; the last event is the message."""
         given = _given(payload)
         with self._lock:
-            self._call("cast", given, len(given))
+            self._enter("cast", given, len(given))
 
     def cast_burst(self, payloads: Sequence[Given]) -> None:
         """Casts the messages of a burst, 1 to 32, in one frame, which goes to all others; the last events are the messages, each with a
@@ -387,14 +475,14 @@ class Member:
         given = [_given(payload) for payload in payloads]
         joined, lengths = b"".join(given), (c_size_t * len(given))(*map(len, given))
         with self._lock:
-            self._call("cast_burst", joined, len(joined), lengths, len(given))
+            self._enter("cast_burst", joined, len(joined), lengths, len(given))
 
     def receive(self, frame: Given) -> Received:
         """Takes received bytes: one frame, whole. The last `delivered` events are new, and frames to be sent answer a request for casts of
         this member, or a help frame, which asks this member for casts of another."""
         given, received = _given(frame), jolunza_received()
         with self._lock:
-            self._call("receive", given, len(given), byref(received))
+            self._enter("receive", given, len(given), byref(received))
         return Received(received.is_repeat, received.is_entered, received.delivered)
 
     def load(self, frames: Given) -> None:
@@ -408,7 +496,7 @@ class Member:
         where not all of them are loaded."""
         numbers, received = [_number(value, 64) for value in (first, length)], jolunza_received()
         with self._lock:
-            self._call("receive_loaded", *numbers, byref(received))
+            self._enter("receive_loaded", *numbers, byref(received))
         return Received(received.is_repeat, received.is_entered, received.delivered)
 
     def receive_parts(self, first: int, lengths: Sequence[int]) -> int:
@@ -419,13 +507,13 @@ class Member:
         numbers, taken = [_number(value, 64) for value in (first, *lengths)], c_size_t()
         given = (c_size_t * (len(numbers) - 1))(*numbers[1:])
         with self._lock:
-            self._call("receive_parts", numbers[0], given, len(given), byref(taken))
+            self._enter("receive_parts", numbers[0], given, len(given), byref(taken))
         return taken.value
 
     def tick(self) -> None:
         """The frames to be sent are the status, to all others, and a request to each member of whom something is missing."""
         with self._lock:
-            self._call("tick")
+            self._enter("tick")
 
     def help(self, member: int) -> None:
         """Asks a third member for the missing casts of another member, for where that one is silent: the one frame to be sent goes to the
@@ -435,10 +523,8 @@ class Member:
             self._call("help", _number(member, 32))
 
     def counts(self) -> Counts:
-        counts = jolunza_counts()
         with self._lock:
-            self._call("count", byref(counts))
-        return Counts(counts.frames, counts.events, counts.entries)
+            return self._count()
 
     def frames(self) -> list[Frame]:
         """The frames to be sent of the last call of `cast`, `cast_burst`, `receive`, `tick` or `help` that was done."""
@@ -528,10 +614,43 @@ class Member:
         with self._lock:
             return self._missing(_number(member, 32), self._MANY)
 
+    def journal_head(self) -> bytes:
+        """The first line of the member's journal, with its line feed."""
+        with self._lock:
+            return self._line("journal_head")
+
+    def journal_line(self, index: int) -> bytes:
+        """The line of an entry in the member's journal, with its line feed; NONE_THERE where there is no such entry. Entries are counted
+        from 0, without a history those of the last call."""
+        with self._lock:
+            return self._line("journal_line", _number(index, 64))
+
+    def _lines(self, written: int) -> tuple[bytes, int]:
+        """The lines of the entries that are not in the journal yet, which has so many; without a history so many of those that were added
+        since the member was opened or came back. And how many it has then."""
+        with self._lock:
+            entries = self._count().entries
+            added = entries if self.keeps_history else self._entered
+            first = entries + written - added
+            if first < 0:
+                raise LeftOut("an entry is lost: nothing was appended between two calls")
+            return b"".join(self._line("journal_line", index) for index in range(first, entries)), added
+
+    def _enter(self, name: str, *given: Any) -> None:
+        """A call that can add entries. Without a history only those of the last of them can be read."""
+        self._call(name, *given)
+        if not self.keeps_history:
+            self._entered += self._count().entries
+
     def _call(self, name: str, *given: Any) -> None:
         code = getattr(self._library, f"jolunza_{name}")(self._handle, *given)
         if code:
             raise Refusal(Code(code))
+
+    def _count(self) -> Counts:
+        counts = jolunza_counts()
+        self._call("count", byref(counts))
+        return Counts(counts.frames, counts.events, counts.entries)
 
     def _frames(self, first: int) -> list[Frame]:
         heads, count = (jolunza_frame_head * self._MANY)(), c_size_t()
@@ -564,9 +683,111 @@ class Member:
         delivered = tuple(Name(name.sender, name.number) for name in names[: head.delivered])
         return Entry(Kind(head.kind), self._view[: head.length].tobytes(), delivered)
 
+    def _line(self, name: str, *given: Any) -> bytes:
+        length, text = c_size_t(), self._bytes
+        self._call(name, *given, text, len(text), byref(length))
+        if length.value > len(text):
+            text = (c_uint8 * length.value)()
+            self._call(name, *given, text, len(text), byref(length))
+        return bytes(memoryview(text)[: length.value])
+
     def _missing(self, member: int, room: int) -> list[range]:
         ranges, count = (jolunza_range * room)(), c_size_t()
         self._call("missing", member, ranges, room, byref(count))
         if count.value > room:
             return self._missing(member, count.value)
         return [range(found.first, found.last + 1) for found in ranges[: count.value]]
+
+
+class Journal:
+    """The file of what a member did, by which it comes back after its process was killed. `append` after each call that was done, and only
+    then send its frames and show its events.
+
+    Opens the member of the journal, as `member`: all its events can be read. The file is cut behind its whole lines; one that is not
+    there, or has nothing but a part of the head line, is begun. What is no journal, or one of another member, is raised and stays as it
+    is: a `Refusal`, or `OtherJournal`. Who opens the file while another has it gets a BlockingIOError: else one member would be there
+    twice.
+    """
+
+    def __init__(self, path: str, settings: Settings, history_max: int = 1_000_000) -> None:
+        self._lock = threading.Lock()
+        self._fault: Optional[BaseException] = None
+        self._file = open(path, "a+b", buffering=0)
+        try:
+            fcntl.flock(self._file, fcntl.LOCK_EX | fcntl.LOCK_NB)
+            self.member = self._opened(settings, history_max)
+            self._sync(path)
+        except BaseException:
+            self._file.close()
+            raise
+        self._written = self.member.counts().entries if self.member.keeps_history else 0
+
+    def __enter__(self) -> Journal:
+        return self
+
+    def __exit__(
+        self, kind: Optional[type[BaseException]], raised: Optional[BaseException], trace: Optional[TracebackType]
+    ) -> None:
+        self.close()
+
+    def _opened(self, settings: Settings, history_max: int) -> Member:
+        self._file.seek(0)
+        text = self._file.read()
+        try:
+            back = Member.resume(text, history_max)
+        except Refusal as refusal:
+            if refusal.code != Code.NO_HEAD:
+                raise
+            return self._begun(text, settings, history_max)
+        if back.settings != settings:
+            raise OtherJournal(back.settings)
+        self._file.truncate(back.read)
+        return back.member
+
+    def _begun(self, text: bytes, settings: Settings, history_max: int) -> Member:
+        member = Member(*settings, history_max)
+        head = member.journal_head()
+        if not head.startswith(text):
+            raise Refusal(Code.BAD_LINE, 1)
+        self._file.truncate(0)
+        self._write(head)
+        return member
+
+    def _sync(self, path: str) -> None:
+        """The name of a file that was made outlasts a failure of power as its bytes do."""
+        os.fsync(self._file.fileno())
+        folder = os.open(os.path.dirname(path) or ".", os.O_RDONLY)
+        try:
+            os.fsync(folder)
+        finally:
+            os.close(folder)
+
+    def close(self) -> None:
+        """Closes the file, which others can open then. The member stays."""
+        self._file.close()
+
+    def append(self) -> None:
+        """Writes the lines of the entries that are not written yet, which are on the disk when this is done. Without a history it is to be
+        called after each call: the entries of an earlier one can't be read any more.
+
+        From the first fault on it writes nothing and raises that fault. Then nothing may be sent any more: end, and come back."""
+        with self._lock:
+            if self._fault:
+                raise self._fault
+            try:
+                self._append()
+            except BaseException as fault:
+                self._fault = fault
+                raise
+
+    def _append(self) -> None:
+        lines, written = self.member._lines(self._written)
+        if lines:
+            self._write(lines)
+            os.fsync(self._file.fileno())
+        self._written = written
+
+    def _write(self, text: bytes) -> None:
+        rest = memoryview(text)
+        while rest:
+            rest = rest[self._file.write(rest) :]

@@ -20,8 +20,7 @@ import threading
 import time
 from typing import Any, Callable, Iterator, Optional
 
-from journal import Journal, Record
-from jolunza import Code, Frame, Kind, Member, Refusal
+from jolunza import Code, Frame, Journal, Refusal, Settings
 
 GROUP, SIZE, WINDOW = 7, 3, 16
 LINES_OF_EACH = 40
@@ -98,26 +97,27 @@ class Speaker:
 
     def __init__(self, port: int, me: int, path: str) -> None:
         self._me, self._shown, self._last = me, 0, ""
-        self._member = Member(GROUP, SIZE, WINDOW, me)
-        self._journal = Journal(path, self._member)
+        self._journal = Journal(path, Settings(GROUP, SIZE, WINDOW, me))
+        self._member = self._journal.member
         self._show()
         self._link = Link(port, me)
 
-    def call(self, record: Record) -> None:
+    def call(self, call: Callable[..., object], *given: bytes) -> None:
         """A frame that is refused is dropped, and a line for which the window is full is said later: the caller tries again."""
         try:
-            self._journal.call(record)
+            call(*given)
         except Refusal as refusal:
             if refusal.code in (Code.CLOSED, Code.HISTORY_FULL):
                 raise
             return
+        self._journal.append()
         self._show()
         for frame in self._member.frames():
             self._link.send(frame)
 
     def take(self) -> None:
         try:
-            self.call(Record(Kind.ARRIVE, self._link.arrived.get(timeout=PAUSE)))
+            self.call(self._member.receive, self._link.arrived.get(timeout=PAUSE))
         except queue.Empty:
             pass
 
@@ -125,7 +125,10 @@ class Speaker:
         number = self._member.time()[self._me] + 1
         if number <= LINES_OF_EACH:
             answers = f"re {self._last} " if self._last and number % 2 else ""
-            self.call(Record(Kind.CAST, f"{answers}line {number} of {self._me}".encode()))
+            self.call(self._member.cast, f"{answers}line {number} of {self._me}".encode())
+
+    def tick(self) -> None:
+        self.call(self._member.tick)
 
     def _show(self) -> None:
         for event in self._member.events(self._shown):
@@ -145,7 +148,7 @@ def run_member(port: int, me: int, path: str) -> None:
             speaker.speak()
         if now >= next_tick:
             next_tick = now + TICK
-            speaker.call(Record(Kind.TICK, b""))
+            speaker.tick()
 
 
 class Screen:

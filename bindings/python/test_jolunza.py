@@ -1,9 +1,10 @@
-"""Tests of the module, of the journal, and of what redis_group.py says of screens: python3 -m unittest"""
+"""Tests of the module, and of what redis_group.py says of screens: python3 -m unittest"""
 
 from __future__ import annotations
 
 import contextlib
 import copy
+import ctypes
 import doctest
 import io
 import os
@@ -13,14 +14,14 @@ import tempfile
 import threading
 import time
 import unittest
-from typing import Callable, Iterator, Optional
+from typing import Any, Callable, Iterator, Optional
 from unittest import mock
 
 import jolunza
 import redis_group
 import three_members
-from jolunza import Awaited, Code, Counts, Delayed, Entry, Event, Frame, Kind, Member, Name, Received, Refusal
-from journal import BURST, Journal, Record, make, records
+from jolunza import Awaited, Code, Counts, Delayed, Entry, Event, Frame, Journal, Kind, LeftOut, Member, Name, OtherJournal
+from jolunza import Received, Refusal, Settings
 
 HI = bytes.fromhex("11 07 00 01 00 02 68 69")
 YO = bytes.fromhex("11 07 01 01 01 00 01 02 79 6f")
@@ -74,6 +75,8 @@ def calls(member: Member) -> tuple[Callable[[], object], ...]:
         member.waiting,
         lambda: member.waits_for(1),
         lambda: member.missing(1),
+        member.journal_head,
+        lambda: member.journal_line(0),
     )
 
 
@@ -94,20 +97,20 @@ class Slow:
 
 
 class Case(unittest.TestCase):
-    def refuses(self, code: Code, member: Member, record: Record) -> None:
+    def refuses(self, code: Code, member: Member, call: Callable[..., object], *given: object) -> None:
         """The call is refused just so, and changes nothing."""
         before = (state(member), watched(member))
         with self.assertRaises(Refusal) as raised:
-            make(member, record)
+            call(member, *given)
         self.assertEqual(raised.exception.code, code)
         self.assertEqual((state(member), watched(member)), before)
 
     def answers(self, member: Member, given: str, answer: object) -> None:
-        record = Record(Kind.ARRIVE, bytes.fromhex(given))
+        frame = bytes.fromhex(given)
         if isinstance(answer, Code):
-            self.refuses(answer, member, record)
+            self.refuses(answer, member, Member.receive, frame)
         else:
-            self.assertEqual(make(member, record), answer, given)
+            self.assertEqual(member.receive(frame), answer, given)
 
 
 def state(member: Member) -> tuple[object, ...]:
@@ -339,8 +342,8 @@ class WorkedExamples(Case):
             ("12 07 01 01 02 05", Code.HISTORY_FULL),
         ):
             self.answers(member, given, answer)
-        self.refuses(Code.HISTORY_FULL, member, Record(Kind.TICK, b""))
-        self.refuses(Code.HISTORY_FULL, member, Record(Kind.CAST, b""))
+        self.refuses(Code.HISTORY_FULL, member, Member.tick)
+        self.refuses(Code.HISTORY_FULL, member, Member.cast, b"")
 
 
 class Refusals(Case):
@@ -363,10 +366,10 @@ class Refusals(Case):
 
     def test_of_casting(self) -> None:
         member, _ = that_cast(0, b"a" * 1024, b"b", b"c")
-        self.refuses(Code.PAYLOAD_TOO_LONG, member, Record(Kind.CAST, b"a" * 1025))
+        self.refuses(Code.PAYLOAD_TOO_LONG, member, Member.cast, b"a" * 1025)
         member.cast(b"d")
-        self.refuses(Code.WINDOW_FULL, member, Record(Kind.CAST, b"e"))
-        self.refuses(Code.PAYLOAD_TOO_LONG, member, Record(Kind.CAST, b"a" * 1025))
+        self.refuses(Code.WINDOW_FULL, member, Member.cast, b"e")
+        self.refuses(Code.PAYLOAD_TOO_LONG, member, Member.cast, b"a" * 1025)
 
     def test_of_bursts(self) -> None:
         member = opened(0, history_max=1)
@@ -378,11 +381,11 @@ class Refusals(Case):
             ([b"a" * 33] * 32, Code.PAYLOAD_TOO_LONG),
             ([b""] * 5, Code.WINDOW_FULL),
         ):
-            self.refuses(code, member, Record.of_burst(payloads))
+            self.refuses(code, member, Member.cast_burst, payloads)
         member.cast_burst([b"a" * 1023, b"", b"b"])
         self.assertEqual([len(event.payload) for event in member.events()], [1023, 0, 1])
-        self.refuses(Code.WINDOW_FULL, member, Record.of_burst([b"", b""]))
-        self.refuses(Code.HISTORY_FULL, member, Record.of_burst([b""]))
+        self.refuses(Code.WINDOW_FULL, member, Member.cast_burst, [b"", b""])
+        self.refuses(Code.HISTORY_FULL, member, Member.cast_burst, [b""])
 
     def test_of_what_is_stable(self) -> None:
         for member in (3, 0xFFFF_FFFF):
@@ -717,25 +720,24 @@ class Group:
         self.members = [Member(7, 3, window, me, history_max) for me in range(3)]
         self.network, self.left, self.order = Network(seed, 3), messages, [Name(0, 0)][:0]
         self.journals: dict[int, Journal] = {}
-        self.sent: dict[int, list[list[Frame]]] = {me: [] for me in range(3)}
 
-    def call(self, me: int, record: Record) -> None:
-        before = self.members[me].counts().entries if self.members[me].keeps_history else 0
-        self.journals[me].call(record) if me in self.journals else make(self.members[me], record)
-        frames = self.members[me].frames()
-        if self.members[me].counts().entries > before:
-            self.sent[me].append(frames)
-        self.network.send(me, frames)
+    def call(self, me: int, call: Callable[..., object], *given: object) -> None:
+        call(self.members[me], *given)
+        if me in self.journals:
+            self.journals[me].append()
+        self.network.send(me, self.members[me].frames())
 
     def cast(self, me: int) -> None:
         """One message, or two at once."""
         if not self.left:
             return
         payloads = [b"message %d" % left for left in range(self.left, max(self.left - 2, 0), -1)]
-        record = Record.of_burst(payloads) if self.left % 3 == 0 else Record(Kind.CAST, payloads[0])
         last = self.members[me].time()[me]
         try:
-            self.call(me, record)
+            if self.left % 3 == 0:
+                self.call(me, Member.cast_burst, payloads)
+            else:
+                self.call(me, Member.cast, payloads[0])
         except Refusal as refusal:
             if refusal.code != Code.WINDOW_FULL:
                 raise
@@ -749,11 +751,11 @@ class Group:
         dice = self.network.dice
         taken = self.network.take() if dice.random() < 0.7 else None
         if taken:
-            self.call(taken[0], Record(Kind.ARRIVE, taken[1]))
+            self.call(taken[0], Member.receive, taken[1])
         elif dice.random() < 0.7:
             self.cast(dice.randrange(3))
         else:
-            self.call(dice.randrange(3), Record(Kind.TICK, b""))
+            self.call(dice.randrange(3), Member.tick)
 
     def run(self, steps: int) -> int:
         """Until all is said, delivered and known to be, or for so many steps; says how many."""
@@ -817,117 +819,228 @@ class Lossy(Case):
             self.assertIn((2, log[place + 1]), list(too_early(order, [logs[0], logs[1], swapped])))
 
 
+HEAD = b"cbcast 1 group 7 size 3 window 8 member 1\n"
+TICK = b"tick 12070100\n"
+OWN = Settings(7, 3, 8, 1)
+
+
 class Comeback(Case):
     def setUp(self) -> None:
         folder = tempfile.TemporaryDirectory()
         self.addCleanup(folder.cleanup)
         self.path = os.path.join(folder.name, "journal")
 
+    def has(self) -> bytes:
+        with open(self.path, "rb") as file:
+            return file.read()
+
+    def put(self, text: bytes) -> None:
+        with open(self.path, "wb") as file:
+            file.write(text)
+
+    def begin(self, group: Group, history_max: int) -> None:
+        group.journals[1] = Journal(self.path, OWN, history_max)
+        group.members[1] = group.journals[1].member
+
+    def come_back(self, group: Group, history_max: int, part: bytes) -> None:
+        """Member 1 is killed when so much of a line was written."""
+        group.journals[1].close()
+        whole, before, asked = self.has(), state(group.members[1]), helps(group.members[1])
+        self.put(whole + part)
+        self.begin(group, history_max)
+        self.assertEqual(self.has(), whole)
+        self.assertEqual(group.members[1].frames(), [])
+        last = 2 if history_max else 4
+        self.assertEqual(state(group.members[1])[last:], before[last:])
+        self.assertEqual(helps(group.members[1]), asked)
+
     def test_a_member_comes_back_by_its_journal(self) -> None:
-        group = Group(9, 200)
-        group.journals[1] = Journal(self.path, group.members[1])
-        for _ in range(5):
-            group.run(200)
-            before = state(group.members[1])
-            frames = self.replayed(group)
-            self.assertEqual(frames, group.sent[1])
-            self.assertEqual(state(group.members[1])[2:], before[2:])
-        self.assertLess(group.run(50_000), 50_000)
-        self.assertEqual(list(too_early(group.order, group.logs())), [])
-        self.assertEqual([len(log) for log in group.logs()], [200] * 3)
-        group.journals[1].close()
-
-    def replayed(self, group: Group) -> list[list[Frame]]:
-        """Member 1 begins anew: by the file, and once more to see the frames of each call."""
-        group.journals[1].close()
-        group.members[1] = Member(7, 3, 8, 1)
-        group.journals[1] = Journal(self.path, group.members[1])
-        frames = []
-        with Member(7, 3, 8, 1) as other, open(self.path, "rb") as file:
-            for record in records(file.read()):
-                make(other, record)
-                frames.append(other.frames())
-            self.assertEqual(state(other), state(group.members[1]))
-            self.assertEqual(helps(other), helps(group.members[1]))
-        return frames
-
-    def test_without_a_history_too(self) -> None:
-        group, seen = Group(9, 200, history_max=0), []
-        group.journals[1] = Journal(self.path, group.members[1])
-        for _ in range(5):
-            group.run(200)
-            before = state(group.members[1])
+        for history_max in (100_000, 0):
+            group = Group(9, 200, history_max=history_max)
+            self.begin(group, history_max)
+            for part in (b"", b"cast 11", b"a", b"tick 12070100"):
+                group.run(200)
+                self.come_back(group, history_max, part)
+                self.come_back(group, history_max, b"arr")
+            self.assertLess(group.run(50_000), 50_000)
+            self.assertEqual(sum(group.members[1].time()), 200)
+            if history_max:
+                self.assertEqual(list(too_early(group.order, group.logs())), [])
             group.journals[1].close()
-            group.members[1] = Member(7, 3, 8, 1, 0)
-            group.journals[1] = Journal(self.path, group.members[1])
-            self.assertEqual(state(group.members[1])[4:], before[4:])
-            seen.append(group.members[1].time())
-        self.assertLess(group.run(50_000), 50_000)
-        self.assertEqual(sum(group.members[1].time()), 200)
-        self.assertEqual(sorted(set(seen)), seen)
-        group.journals[1].close()
-
-    def test_what_changes_nothing_is_not_written(self) -> None:
-        for history_max in (0, 100_000):
-            self.writes_what_changes(opened(0, history_max=history_max))
             os.remove(self.path)
 
-    def writes_what_changes(self, member: Member) -> None:
-        journal = Journal(self.path, member)
-        made = [Record(Kind.CAST, b"hi"), Record.of_burst([b"", b"yo"]), Record(Kind.TICK, b"")]
-        for record in (*made, Record(Kind.TICK, b""), Record(Kind.ARRIVE, HI)):
-            journal.call(record)
-        with self.assertRaises(Refusal):
-            journal.call(Record(Kind.ARRIVE, b"\xff"))
-        with open(self.path, "rb") as file:
-            self.assertEqual(list(records(file.read())), made)
-        journal.close()
+    def text(self) -> tuple[bytes, list[tuple[object, ...]]]:
+        """The journal of a member, and what was read of it behind each line."""
+        member = Member(*OWN)
+        lines, states = [member.journal_head()], [state(member)]
+        calls: list[tuple[Any, ...]] = [
+            (Member.tick,),
+            (Member.cast, b"noon"),
+            (Member.cast_burst, [b"", b"one"]),
+            (Member.receive, bytes.fromhex("11070002000162")),
+            (Member.receive, bytes.fromhex("11070001000161")),
+        ]
+        for index, (call, *given) in enumerate(calls):
+            call(member, *given)
+            lines.append(member.journal_line(index))
+            states.append(state(member))
+        with self.assertRaises(Refusal) as raised:
+            member.journal_line(len(calls))
+        self.assertEqual(raised.exception.code, Code.NONE_THERE)
+        return b"".join(lines), states
 
-    def test_a_record_is_written_so(self) -> None:
-        """A journal of before is read as it was."""
-        for record, body in (
-            (Record(Kind.CAST, b"hi"), "00 02000000 6869"),
-            (Record(Kind.ARRIVE, b"\x12\x07\x01\x00"), "01 04000000 12070100"),
-            (Record(Kind.TICK, b""), "02 00000000"),
-            (Record.of_burst([b"hi", b"", b"y"]), "03 0f000000 02000000 6869 00000000 01000000 79"),
-            (Record.of_burst([]), "03 00000000"),
+    def test_each_line_is_that_of_the_protocol(self) -> None:
+        casts = b"cast 1107010100046e6f6f6e\ncast 21070102000200036f6e65\n"
+        arrives = b"arrive 11070002000162 -\narrive 11070001000161 0.1 0.2\n"
+        self.assertEqual(self.text()[0], HEAD + TICK + casts + arrives)
+
+    def test_every_cut_is_a_beginning(self) -> None:
+        text, states = self.text()
+        for length in range(len(HEAD), len(text) + 1):
+            part = text[:length]
+            back = Member.resume(memoryview(part))
+            lines = part.count(b"\n")
+            self.assertEqual((back.settings, back.entries, back.read), (OWN, lines - 1, part.rfind(b"\n") + 1))
+            self.assertEqual(state(back.member)[2:], states[lines - 1][2:])
+
+    def test_a_file_is_begun_where_it_has_a_part_of_the_head_line(self) -> None:
+        for length in range(len(HEAD) + 1):
+            self.put(HEAD[:length])
+            Journal(self.path, OWN).close()
+            self.assertEqual(self.has(), HEAD)
+
+    def test_what_is_no_journal_is_named_and_left(self) -> None:
+        text = HEAD + TICK
+        for given, code, line in (
+            (b"a letter", Code.BAD_LINE, 1),
+            (b"a letter\n", Code.BAD_LINE, 1),
+            (text + b"cast 110701010001\ncast\n", Code.BAD_LINE, 4),
+            (text + TICK, Code.NOT_LEGAL, 3),
+            (text + b"cast 11070102000161\n", Code.NOT_LEGAL, 3),
+            (text + b"arrive 11070001000161 -\n", Code.NOT_LEGAL, 3),
         ):
-            self.assertEqual(record.text()[:-4], bytes.fromhex(body))
-            self.assertEqual(list(records(record.text())), [record])
-        self.assertEqual(Record.of_burst([b"hi", b"", b"y"]).payloads(), [b"hi", b"", b"y"])
-        self.assertEqual(Record.of_burst([]).payloads(), [])
-        with self.assertRaises(ValueError):
-            list(records(Record(BURST + 1, b"").text()))
+            self.put(given)
+            with self.assertRaises(Refusal) as raised:
+                Journal(self.path, OWN)
+            self.assertEqual((raised.exception.code, raised.exception.line), (code, line))
+            self.assertEqual(str(raised.exception), f"{code.name} {line}")
+            self.assertEqual(self.has(), given)
+
+    def test_each_fault_comes_before_the_next(self) -> None:
+        text, over = HEAD + TICK + TICK, 16_777_217
+        for given, history_max, code, line in (
+            (b"a", over, Code.NO_HEAD, None),
+            (text + b"?\n", over, Code.BAD_LINE, 4),
+            (text, over, Code.BAD_LIMIT, None),
+            (text, 1, Code.TOO_LONG, None),
+            (text, 2, Code.NOT_LEGAL, 3),
+            (text, 0, Code.NOT_LEGAL, 3),
+        ):
+            with self.assertRaises(Refusal) as raised:
+                Member.resume(given, history_max)
+            self.assertEqual((raised.exception.code, raised.exception.line), (code, line))
+        with self.assertRaises(OverflowError):
+            Member.resume(text, 1 << 64)
+        with self.assertRaises(TypeError):
+            Member.resume("cbcast")  # type: ignore[arg-type]
+
+    def test_the_journal_of_another_member(self) -> None:
+        text = HEAD + TICK + b"ca"
+        for other in (OWN._replace(group=8), OWN._replace(size=4), OWN._replace(window=9), OWN._replace(me=2)):
+            self.put(text)
+            with self.assertRaises(OtherJournal) as raised:
+                Journal(self.path, other)
+            self.assertEqual(raised.exception.settings, OWN)
+            self.assertEqual(self.has(), text)
 
     def test_nobody_else_has_the_journal(self) -> None:
-        journal = Journal(self.path, opened(0))
+        journal = Journal(self.path, OWN)
         with self.assertRaises(BlockingIOError):
-            Journal(self.path, opened(0))
+            Journal(self.path, OWN)
         journal.close()
-        Journal(self.path, opened(0)).close()
+        Journal(self.path, OWN).close()
 
-    def test_a_record_that_is_cut_off(self) -> None:
-        whole = [Record(Kind.CAST, b"one"), Record(Kind.TICK, b""), Record(Kind.CAST, b"two")]
-        text = b"".join(record.text() for record in whole)
-        last = len(whole[2].text())
-        for length in range(len(text) - last, len(text)):
-            with open(self.path, "wb") as file:
-                file.write(text[:length])
-            member = opened(0)
-            journal = Journal(self.path, member)
-            self.assertEqual([event.payload for event in member.events()], [b"one"])
-            journal.call(Record(Kind.CAST, b"three"))
+    def test_each_entry_is_written_once(self) -> None:
+        for history_max in (100_000, 0):
+            journal, expected = Journal(self.path, OWN, history_max), HEAD
+            member = journal.member
+            frames = bytes.fromhex("11070002000162"), bytes.fromhex("11070001000161")
+            member.load(b"".join(frames))
+            for call, lines in (
+                (member.tick, TICK),
+                (member.tick, b""),
+                (lambda: member.cast(b"a"), b"cast 11070101000161\n"),
+                (lambda: member.help(0), b""),
+                (lambda: member.receive(b"?"), b""),
+                (lambda: member.receive_loaded(0, 7), b"arrive 11070002000162 -\n"),
+                (lambda: member.receive_parts(7, [7]), b"arrive 11070001000161 0.1 0.2\n"),
+            ):
+                with contextlib.suppress(Refusal):
+                    call()
+                expected += lines
+                for _ in range(2):
+                    journal.append()
+                    self.assertEqual(self.has(), expected)
             journal.close()
-            with open(self.path, "rb") as file:
-                self.assertEqual(list(records(file.read())), [*whole[:2], Record(Kind.CAST, b"three")])
+            journal = Journal(self.path, OWN, history_max)
+            self.assertEqual([event.payload for event in journal.member.events()], [b"a", b"a", b"b"])
+            journal.append()
+            journal.member.cast(b"b")
+            journal.append()
+            self.assertTrue(self.has().startswith(expected + b"cast "))
+            journal.close()
+            os.remove(self.path)
 
-    def test_a_journal_that_is_damaged(self) -> None:
-        text = Record(Kind.CAST, b"one").text() + Record(Kind.CAST, b"two").text()
-        for place in range(len(text)):
-            damaged = text[:place] + bytes([text[place] ^ 1]) + text[place + 1 :]
-            with self.subTest(place), self.assertRaises(ValueError):
-                if len(list(records(damaged))) < 2:
-                    raise ValueError("it seems to be cut off")
+    def test_without_a_history_an_entry_that_was_left_out_is_seen(self) -> None:
+        with Journal(self.path, OWN, 0) as journal:
+            journal.member.tick()
+            journal.append()
+            journal.member.tick()  # it has no news, and so no entry
+            journal.member.cast(b"a")
+            journal.append()
+            written = self.has()
+            journal.member.cast(b"b")
+            journal.member.receive(HI)
+            for _ in range(2):
+                with self.assertRaises(LeftOut):
+                    journal.append()
+            self.assertEqual(self.has(), written)
+
+    def test_from_the_first_fault_on_nothing_is_written(self) -> None:
+        journal = Journal(self.path, OWN)
+        journal.member.cast(b"a")
+        with mock.patch.object(os, "fsync", side_effect=OSError("no disk")) as fsync, self.assertRaises(OSError) as raised:
+            journal.append()
+        self.assertEqual(fsync.call_count, 1)
+        journal.member.cast(b"b")
+        written = self.has()
+        with self.assertRaises(OSError) as again:
+            journal.append()
+        self.assertIs(again.exception, raised.exception)
+        self.assertEqual(self.has(), written)
+        journal.close()
+
+    def test_a_write_of_a_part_is_gone_on_with(self) -> None:
+        journal = Journal(self.path, OWN)
+        journal.member.cast(b"a")
+        file, journal._file = journal._file, mock.Mock(wraps=journal._file)
+        journal._file.write.side_effect = lambda rest: file.write(rest[:3])
+        journal.append()
+        self.assertEqual(self.has(), HEAD + b"cast 11070101000161\n")
+        file.close()
+
+    def test_a_long_line_is_whole(self) -> None:
+        sender, member = Member(7, 64, 256, 0), Member(7, 64, 256, 1)
+        frames = []
+        for _ in range(256):
+            sender.cast(b"")
+            frames.append(sender.frames()[0].bytes)
+        for frame in [*frames[1:], frames[0]]:
+            member.receive(frame)
+        member._bytes = (ctypes.c_uint8 * 1000)()  # so that it is too small
+        line = member.journal_line(255)
+        self.assertEqual(line.split()[2:], [b"0.%d" % number for number in range(1, 257)])
+        self.assertTrue(line.endswith(b"\n"))
 
 
 class Screens(Case):

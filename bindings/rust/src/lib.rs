@@ -29,6 +29,9 @@
 //! each whole and as it is, and show [`Member::new_events`]. Tick now and then: a tick says what the member has, and asks for what it
 //! misses. More rarely ask for help with each other member: a third one then sends what that one casts and does not send again.
 //!
+//! A [`Journal`] has what a member did in a file, and brings it back after its process was killed: append to it after each call, before
+//! frames are sent and events are shown.
+//!
 //! A member goes to another thread, and no two threads use one at a time:
 //!
 //! ```
@@ -55,15 +58,19 @@
 mod entries;
 mod events;
 mod frames;
+mod journal;
 mod member;
 mod refusal;
+mod resuming;
 pub mod sys;
 
 pub use entries::Entry;
 pub use events::{Event, Events};
 pub use frames::{Frame, Frames};
+pub use journal::{Journal, JournalFault};
 pub use member::{Awaited, Counts, Delayed, Member, Name, Received, Settings};
 pub use refusal::Refusal;
+pub use resuming::{ResumeFault, Resumed};
 
 /// The most bytes of a payload, and of all payloads of a burst.
 pub const LONGEST_PAYLOAD: usize = sys::JOLUNZA_LONGEST_PAYLOAD;

@@ -4,6 +4,7 @@ use crate::entries::{Entry, EntryBuffer};
 use crate::events::{EventBuffer, Events};
 use crate::frames::{FrameBuffer, Frames};
 use crate::refusal::{answered, Refusal};
+use crate::resuming::{ResumeFault, Resumed};
 use crate::sys;
 use std::cell::UnsafeCell;
 use std::fmt;
@@ -80,7 +81,7 @@ pub struct Awaited {
 /// One member of a group.
 ///
 /// Of one group each member number is opened once in the world. Who begins anew under an old number is ignored by the
-/// others: to come back, make the calls of which there were entries again before anything is sent.
+/// others: to come back, write a [`Journal`](crate::Journal), and [`resume`](Member::resume) by it.
 pub struct Member {
     /// Open from `open` to `drop`, which all `unsafe` here rests on, as on this: pointers come from references and
     /// slices that do not overlap, and a `Member` is called by one thread at a time. Readings take the handle by a
@@ -90,12 +91,16 @@ pub struct Member {
     /// How many of the events that can be read `new_events` has handed out, and how many it has not.
     shown: usize,
     unshown: usize,
+    /// Without a history: how many entries were added since it was opened or came back. Only those of the last call can be read.
+    entered: usize,
     /// What is known of the frames of the last call that was done.
     left: Left,
     frames: FrameBuffer,
     events: EventBuffer,
     entry: EntryBuffer,
 }
+
+const CLOSED: sys::jolunza_handle = sys::jolunza_handle { at: ptr::null_mut(), is_open: false };
 
 /// The frames that a call left: none, the one of a cast or a burst, or any number.
 #[derive(Clone, Copy)]
@@ -113,18 +118,51 @@ impl Member {
     /// A member that has done nothing. The first that holds: `BadGroup`, `BadMember`, `BadLimit`; or `NoMemory`.
     pub fn open(settings: Settings) -> Result<Member, Refusal> {
         let Settings { group, size, window, me, history_max } = settings;
-        let mut handle = sys::jolunza_handle { at: ptr::null_mut(), is_open: false };
+        let mut handle = CLOSED;
         answered(unsafe { sys::jolunza_open(&mut handle, group, size, window, me, history_max) })?;
-        Ok(Member {
+        Ok(Member::over(handle, settings))
+    }
+
+    /// The member whose journal these bytes are, as it was after the last whole line: its time, its events, its history, and each
+    /// frame that it will send. Nothing is to be sent, and `new_events` hands out all its events, from the first one on; without a
+    /// history before its next call.
+    ///
+    /// ```
+    /// # use jolunza::{Member, Settings};
+    /// # let mut anna = Member::open(Settings { group: 7, size: 3, window: 4, me: 0, history_max: 100 })?;
+    /// let mut journal = anna.journal_head()?;
+    /// anna.cast(b"when?")?;
+    /// journal += &anna.journal_line(0)?;
+    /// let back = Member::resume(journal.as_bytes(), 100)?;
+    /// assert_eq!((back.member.settings(), back.entries, back.read), (anna.settings(), 1, journal.len()));
+    /// # Ok::<(), Box<dyn std::error::Error>>(())
+    /// ```
+    pub fn resume(journal: &[u8], history_max: usize) -> Result<Resumed, ResumeFault> {
+        let (mut handle, mut read) = (CLOSED, sys::jolunza_journal::default());
+        let (at, length) = (journal.as_ptr(), journal.len());
+        let code = unsafe { sys::jolunza_resume(&mut handle, at, length, history_max, &mut read) };
+        if code != sys::JOLUNZA_DONE {
+            return Err(ResumeFault::of(code, read.line));
+        }
+        let sys::jolunza_journal { group, size, window, me, entries, read, .. } = read;
+        let mut member = Member::over(handle, Settings { group, size, window, me, history_max });
+        member.unshown = member.counts().events;
+        Ok(Resumed { member, entries, read })
+    }
+
+    /// What is known of a member whose handle was just opened.
+    fn over(handle: sys::jolunza_handle, settings: Settings) -> Member {
+        Member {
             handle: UnsafeCell::new(handle),
             settings,
             shown: 0,
             unshown: 0,
+            entered: 0,
             left: Left::NoFrame,
             frames: FrameBuffer::new(),
-            events: EventBuffer::new(size as usize),
+            events: EventBuffer::new(settings.size as usize),
             entry: EntryBuffer::new(),
-        })
+        }
     }
 
     pub fn settings(&self) -> Settings {
@@ -135,7 +173,7 @@ impl Member {
     #[inline]
     pub fn cast(&mut self, payload: &[u8]) -> Result<(), Refusal> {
         answered(unsafe { sys::jolunza_cast(self.handle.get(), payload.as_ptr(), payload.len()) })?;
-        self.add_events(1);
+        self.add_events(1, 1);
         self.left = Left::OneFrame;
         Ok(())
     }
@@ -158,7 +196,7 @@ impl Member {
         let lengths: Vec<usize> = payloads.iter().map(|payload| payload.len()).collect();
         let (at, count) = (lengths.as_ptr(), lengths.len());
         answered(unsafe { sys::jolunza_cast_burst(self.handle.get(), bytes.as_ptr(), bytes.len(), at, count) })?;
-        self.add_events(payloads.len());
+        self.add_events(payloads.len(), 1);
         self.left = Left::OneFrame;
         Ok(())
     }
@@ -238,7 +276,7 @@ impl Member {
         answered(unsafe { sys::jolunza_receive_parts(self.handle.get(), first, at, count, &mut taken) })?;
         let counts = self.counts();
         let before = if self.settings.history_max == 0 { 0 } else { self.shown + self.unshown };
-        self.add_events(counts.events - before);
+        self.add_events(counts.events - before, counts.entries);
         self.left = if counts.frames == 0 { Left::NoFrame } else { Left::Frames };
         Ok(taken)
     }
@@ -247,7 +285,7 @@ impl Member {
     #[inline]
     fn taken(&mut self, received: sys::jolunza_received) -> Received {
         let sys::jolunza_received { is_repeat, is_entered, delivered } = received;
-        self.add_events(delivered);
+        self.add_events(delivered, usize::from(is_entered));
         // frames answer a request or a help frame, which are never entered
         self.left = if is_repeat || is_entered { Left::NoFrame } else { Left::Frames };
         Received { is_repeat, is_entered, delivered }
@@ -257,7 +295,8 @@ impl Member {
     #[inline]
     pub fn tick(&mut self) -> Result<(), Refusal> {
         answered(unsafe { sys::jolunza_tick(self.handle.get()) })?;
-        self.add_events(0);
+        let entered = if self.settings.history_max == 0 { self.counts().entries } else { 0 };
+        self.add_events(0, entered);
         self.left = Left::Frames;
         Ok(())
     }
@@ -290,11 +329,13 @@ impl Member {
         Ok(())
     }
 
-    /// A call that was done has made so many. Without a history those of the call before can't be read any more.
+    /// A call that was done has made so many, and without a history added so many entries. Those of the call before can't be read
+    /// any more then.
     #[inline]
-    fn add_events(&mut self, more: usize) {
+    fn add_events(&mut self, more: usize, entered: usize) {
         if self.settings.history_max == 0 {
             (self.shown, self.unshown) = (0, 0);
+            self.entered += entered;
         }
         self.unshown += more;
     }
@@ -331,6 +372,36 @@ impl Member {
     /// `None` where that call has changed nothing.
     pub fn entry(&mut self, index: usize) -> Option<Entry<'_>> {
         unsafe { self.entry.fill(self.handle.get(), index) }
+    }
+
+    /// The first line of the member's journal, with its line feed; or `NoMemory`.
+    pub fn journal_head(&self) -> Result<String, Refusal> {
+        self.line(|at, capacity, length| unsafe { sys::jolunza_journal_head(self.handle.get(), at, capacity, length) })
+    }
+
+    /// The line of an entry in the member's journal, with its line feed; entries have the indexes of [`entry`](Member::entry).
+    /// `NoneThere` where there is no such entry; or `NoMemory`.
+    pub fn journal_line(&self, index: usize) -> Result<String, Refusal> {
+        self.line(|at, capacity, length| unsafe {
+            sys::jolunza_journal_line(self.handle.get(), index, at, capacity, length)
+        })
+    }
+
+    /// A line that a call copies as far as it fits, and whose length it tells.
+    fn line(&self, copy: impl Fn(*mut u8, usize, &mut usize) -> u32) -> Result<String, Refusal> {
+        let (mut text, mut length) = (vec![0; LONG_LINE], 0);
+        answered(copy(text.as_mut_ptr(), text.len(), &mut length))?;
+        if length > text.len() {
+            text.resize(length, 0);
+            answered(copy(text.as_mut_ptr(), text.len(), &mut length))?;
+        }
+        text.truncate(length);
+        Ok(String::from_utf8(text).expect("a journal is text"))
+    }
+
+    /// Without a history: how many entries were added since it was opened or came back.
+    pub(crate) fn entered(&self) -> usize {
+        self.entered
     }
 
     pub fn counts(&self) -> Counts {
@@ -407,6 +478,9 @@ impl Member {
         Ok(ranges[..count].iter().map(|range| range.first..=range.last).collect())
     }
 }
+
+/// The line of an entry with the longest frame, and with some names, fits.
+const LONG_LINE: usize = 3_072;
 
 /// At most as many numbers as the window are missing, and a number lies between two ranges.
 const MOST_RANGES: usize = 128;

@@ -35,8 +35,8 @@ pub enum Refusal {
     TooFar = sys::JOLUNZA_TOO_FAR,
     /// `receive`: no frame. Drop the bytes.
     Malformed = sys::JOLUNZA_MALFORMED,
-    /// `receive_loaded`: not all of these bytes are loaded. Of an index that is not below the count a `Member` answers
-    /// `None` instead.
+    /// `receive_loaded`: not all of these bytes are loaded; `journal_line`: there is no such entry. Of an index that is not
+    /// below the count other calls of a `Member` answer `None` instead.
     NoneThere = sys::JOLUNZA_NONE_THERE,
     /// `receive`: a part of the burst was received before, and a part was not. Drop the frame.
     Overlap = sys::JOLUNZA_OVERLAP,

@@ -26,6 +26,10 @@ pub const JOLUNZA_NONE_THERE: u32 = 13;
 pub const JOLUNZA_OVERLAP: u32 = 14;
 pub const JOLUNZA_EMPTY_BURST: u32 = 15;
 pub const JOLUNZA_BURST_TOO_LONG: u32 = 16;
+pub const JOLUNZA_NO_HEAD: u32 = 17;
+pub const JOLUNZA_BAD_LINE: u32 = 18;
+pub const JOLUNZA_TOO_LONG: u32 = 19;
+pub const JOLUNZA_NOT_LEGAL: u32 = 20;
 
 #[repr(C)]
 #[derive(Debug)]
@@ -101,6 +105,18 @@ pub struct jolunza_delayed {
     pub sender: u32,
     pub first: u32,
     pub last: u32,
+}
+
+#[repr(C)]
+#[derive(Clone, Copy, Debug, Default)]
+pub struct jolunza_journal {
+    pub group: u32,
+    pub size: u32,
+    pub window: u32,
+    pub me: u32,
+    pub entries: usize,
+    pub read: usize,
+    pub line: usize,
 }
 
 extern "C" {
@@ -225,5 +241,24 @@ extern "C" {
         ranges: *mut jolunza_range,
         capacity: usize,
         count: *mut usize,
+    ) -> u32;
+
+    pub fn jolunza_resume(
+        handle: *mut jolunza_handle,
+        bytes: *const u8,
+        length: usize,
+        history_max: usize,
+        journal: *mut jolunza_journal,
+    ) -> u32;
+
+    pub fn jolunza_journal_head(handle: *mut jolunza_handle, text: *mut u8, capacity: usize, length: *mut usize)
+        -> u32;
+
+    pub fn jolunza_journal_line(
+        handle: *mut jolunza_handle,
+        index: usize,
+        text: *mut u8,
+        capacity: usize,
+        length: *mut usize,
     ) -> u32;
 }

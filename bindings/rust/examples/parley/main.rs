@@ -4,9 +4,9 @@
 //! cargo run --example parley -- --me 0 --group 7 --listen 127.0.0.1:7000 --peer 1=127.0.0.1:7001
 //! ```
 
-mod journal;
 mod lines;
 mod network;
+mod notes;
 mod options;
 mod orders;
 mod pace;
@@ -17,11 +17,10 @@ mod state;
 mod trace;
 mod words;
 
-use crate::journal::{Journal, Record};
 use crate::network::Network;
+use crate::notes::{Note, Notes};
 use crate::options::{options_in, Options, USAGE};
 use crate::session::Session;
-use crate::state::State;
 use jolunza::Settings;
 use std::env;
 use std::io::{self, BufRead};
@@ -77,23 +76,20 @@ fn parley(options: Options) -> io::Result<()> {
     Ok(())
 }
 
-/// The socket comes first: it also keeps a second process from the journal.
+/// The socket comes first: it also keeps a second process from the files.
 fn begin(options: Options) -> io::Result<Session> {
     let Options { settings, listen, peers, journal: path, chance } = options;
     let network = Network::open(listen, peers, settings.me, chance);
     let network = network.map_err(|fault| io::Error::other(format!("NoSocket: {listen}: {fault}")))?;
-    let (journal, records) = match &path {
-        Some(path) => {
-            let (journal, records) = Journal::open(path, &settings)?;
-            (Some(journal), records)
-        }
-        None => (None, vec![Record::Group(settings.group)]),
+    let (notes, found) = match &path {
+        Some(path) => Notes::open(path, &settings).map(|(notes, found)| (Some(notes), found))?,
+        None => (None, vec![Note::Group(settings.group)]),
     };
-    let Some((Record::Group(first), rest)) = records.split_first() else {
+    let Some((Note::Group(first), rest)) = found.split_first() else {
         return Err(io::Error::other("BadJournal: line 2"));
     };
-    let state = State::new(Settings { group: *first, ..settings }).map_err(io::Error::other)?;
-    let mut session = Session::new(state, journal, network, Instant::now());
+    let settings = Settings { group: *first, ..settings };
+    let mut session = Session::open(&settings, notes, network, Instant::now())?;
     session.replay(rest)?;
     greet(&session, path.is_some());
     Ok(session)

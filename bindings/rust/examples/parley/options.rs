@@ -18,7 +18,7 @@ parley --me 1 --group 7 --listen 127.0.0.1:7001 --peer 0=127.0.0.1:7000 --peer 2
   --group NUMBER       the same at each; a number that nobody used before
   --listen ADDRESS     where your frames arrive, by UDP
   --peer NUMBER=ADDRESS  where those of another member go, once for each other
-  --journal FILE       comes back by this file when it was killed
+  --journal FILE       comes back by this file and FILE.GROUP when it was killed
   --drop PERCENT       loses so many of the frames that it sends, to try it out
   --delay MILLISECONDS holds each frame back, at most for so long
   --seed NUMBER        of what --drop and --delay do by chance";

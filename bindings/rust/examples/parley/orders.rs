@@ -1,6 +1,5 @@
 //! What is done with a line that was typed.
 
-use crate::journal::Record;
 use crate::lines::{self, is_room, Line};
 use crate::session::Session;
 use crate::trace::write_part;
@@ -16,7 +15,7 @@ impl Session {
             Ok(Order::Nothing) => {}
             Ok(Order::Say(text)) => self.utter(self.state.conference.say(&self.state.room, text))?,
             Ok(Order::Answer { question, text }) => self.utter(self.state.conference.answer(question, text))?,
-            Ok(Order::Room(name)) => self.enter(name)?,
+            Ok(Order::Room(name)) => self.change_room(name)?,
             Ok(Order::Who) => self.list_others(now)?,
             Ok(Order::Why) => self.tell_why()?,
             Ok(Order::Trace(path)) => self.trace(path)?,
@@ -32,16 +31,16 @@ impl Session {
             Err(fault) => self.screen.say(fault),
             Ok(payload) => {
                 self.screen.take_off()?;
-                let _ = self.make(Record::Say(payload))?;
+                self.say(payload)?;
                 self.cast_waiting()?;
             }
         }
         Ok(())
     }
 
-    fn enter(&mut self, name: &str) -> io::Result<()> {
+    fn change_room(&mut self, name: &str) -> io::Result<()> {
         if is_room(name) {
-            let _ = self.make(Record::Room(name.into()))?;
+            self.enter(name)?;
         } else {
             self.screen.say(lines::Fault::BadRoom);
         }
@@ -57,8 +56,8 @@ impl Session {
         self.state.why().iter().try_for_each(|line| self.screen.put(line))
     }
 
-    fn trace(&mut self, path: &str) -> io::Result<()> {
-        match write_part(path, &mut self.state.member) {
+    fn trace(&self, path: &str) -> io::Result<()> {
+        match write_part(path, &self.state.member) {
             Ok(entries) => self.screen.put(format!("{entries} entries in {path}")),
             Err(fault) => {
                 self.screen.say(format!("NoTrace: {path}: {fault}"));
@@ -75,14 +74,11 @@ impl Session {
             return Ok(());
         }
         let payloads = self.said_in_vain();
-        if let Err(refusal) = self.make(Record::Group(number))? {
-            self.screen.say(format!("{refusal:?}: {refusal}"));
+        if let Err(fault) = self.begin_group(number, payloads)? {
+            self.screen.say(fault);
             return Ok(());
         }
         self.is_used_up = false;
-        for payload in payloads {
-            let _ = self.make(Record::Say(payload))?;
-        }
         self.cast_waiting()
     }
 

@@ -1,13 +1,13 @@
-//! A parley: what is typed and what arrives changes the state, goes to the journal, and only then to the others.
+//! A parley: what is typed and what arrives goes to the files, and only then to the others and to the screen.
 
-use crate::journal::{Journal, Record};
 use crate::lines::{take_number, Showing};
 use crate::network::Network;
+use crate::notes::{open_member, Note, Notes};
 use crate::pace::Pace;
 use crate::peers::Peers;
 use crate::screen::Screen;
-use crate::state::State;
-use jolunza::Refusal;
+use crate::state::{Call, State};
+use jolunza::{Journal, Member, Refusal, Settings};
 use std::collections::BTreeSet;
 use std::io;
 use std::net::SocketAddr;
@@ -22,6 +22,7 @@ pub struct Session {
     pub screen: Screen,
     pub network: Network,
     pub peers: Peers,
+    notes: Option<Notes>,
     journal: Option<Journal>,
     pace: Pace,
     /// The others know more of this member than it does itself.
@@ -32,48 +33,108 @@ pub struct Session {
 }
 
 impl Session {
-    pub fn new(state: State, journal: Option<Journal>, network: Network, now: Instant) -> Session {
-        Session {
-            state,
+    /// With the member of the first group. Without notes nothing of it comes back.
+    pub fn open(settings: &Settings, notes: Option<Notes>, network: Network, now: Instant) -> io::Result<Session> {
+        let (journal, member) = open_member(notes.as_ref(), settings)?;
+        Ok(Session {
+            state: State::new(member),
             screen: Screen::new(),
             peers: Peers::new(network.peers()),
             network,
+            notes,
             journal,
             pace: Pace::new(now),
             is_used_up: false,
             leaving: None,
             has_met_strangers: false,
             told: BTreeSet::new(),
-        }
+        })
     }
 
-    /// Does again what the journal has. Nothing is sent.
-    pub fn replay(&mut self, records: &[Record]) -> io::Result<()> {
-        for (place, record) in records.iter().enumerate() {
-            let done = self.state.apply(record);
-            done.map_err(|refusal| io::Error::other(format!("BadJournal: line {}: {refusal}", place + 3)))?;
-            self.show_news()?;
+    /// Takes what was noted behind the first group. Nothing is sent.
+    pub fn replay(&mut self, notes: &[Note]) -> io::Result<()> {
+        self.show_news()?;
+        for note in notes {
+            match note {
+                Note::Room(name) => self.state.room.clone_from(name),
+                Note::Say(payload) => self.state.say(payload.clone()),
+                Note::Group(number) => {
+                    self.look_at_said()?;
+                    let opened = self.open_group(*number)?;
+                    self.go_on(opened);
+                    self.show_news()?;
+                }
+            }
         }
+        self.look_at_said()
+    }
+
+    /// The member cast nothing but what was noted before.
+    fn look_at_said(&self) -> io::Result<()> {
+        let group = self.state.member.settings().group;
+        let fault = || io::Error::other(format!("BadJournal: in group {group} more was cast than the notes have"));
+        self.state.has_said_all().then_some(()).ok_or_else(fault)
+    }
+
+    fn open_group(&self, group: u32) -> io::Result<(Option<Journal>, Member)> {
+        open_member(self.notes.as_ref(), &Settings { group, ..self.state.member.settings() })
+    }
+
+    fn go_on(&mut self, (journal, member): (Option<Journal>, Member)) {
+        self.journal = journal;
+        self.state.begin(member);
+    }
+
+    /// Says these payloads in a new group. Where it can't begin, nothing has changed.
+    pub fn begin_group(&mut self, number: u32, payloads: Vec<Vec<u8>>) -> io::Result<Result<(), String>> {
+        let opened = match self.open_group(number) {
+            Err(fault) => return Ok(Err(fault.to_string())),
+            Ok((_, member)) if member.counts().entries > 0 => {
+                return Ok(Err(format!("UsedUp: group {number} has a journal")));
+            }
+            Ok(opened) => opened,
+        };
+        let says = payloads.iter().cloned().map(Note::Say);
+        self.note(&[vec![Note::Group(number)], says.collect()].concat())?;
+        self.go_on(opened);
+        payloads.into_iter().for_each(|payload| self.state.say(payload));
+        Ok(Ok(()))
+    }
+
+    pub fn say(&mut self, payload: Vec<u8>) -> io::Result<()> {
+        self.note(&[Note::Say(payload.clone())])?;
+        self.state.say(payload);
         Ok(())
     }
 
-    /// Does what a record says, writes it down where it changed something, and then sends and shows what came of it.
-    pub fn make(&mut self, record: Record) -> io::Result<Result<(), Refusal>> {
-        let is_call = matches!(record, Record::Cast | Record::Burst(_) | Record::Arrive(_) | Record::Tick);
+    pub fn enter(&mut self, room: &str) -> io::Result<()> {
+        self.note(&[Note::Room(room.into())])?;
+        self.state.room = room.into();
+        Ok(())
+    }
+
+    fn note(&mut self, notes: &[Note]) -> io::Result<()> {
+        if let Some(file) = &mut self.notes {
+            file.write(notes)?;
+        }
+        self.pace.hurry(Instant::now());
+        Ok(())
+    }
+
+    /// Makes a call. Its entry is in the journal before its frames are sent and what it delivered is shown.
+    pub fn call(&mut self, call: &Call) -> io::Result<Result<(), Refusal>> {
         let before = self.state.member.counts().entries;
-        if let Err(refusal) = self.state.apply(&record) {
+        if let Err(refusal) = self.state.call(call) {
             return Ok(Err(refusal));
         }
-        let is_entered = self.state.member.counts().entries != before;
-        if is_entered || !is_call {
-            if let Some(journal) = &mut self.journal {
-                journal.write(&[record])?;
-            }
+        if let Some(journal) = &mut self.journal {
+            let done = journal.append(&self.state.member);
+            done.map_err(|fault| io::Error::other(format!("NotWritten: the journal: {fault}")))?;
+        }
+        if self.state.member.counts().entries != before {
             self.pace.hurry(Instant::now());
         }
-        if is_call {
-            self.state.member.frames().for_each(|frame| self.network.send(frame));
-        }
+        self.state.member.frames().for_each(|frame| self.network.send(frame));
         self.show_news()?;
         Ok(Ok(()))
     }
@@ -95,7 +156,7 @@ impl Session {
     /// Casts what waits, as far as the window lets it.
     pub fn cast_waiting(&mut self) -> io::Result<()> {
         while !self.is_used_up && !self.state.waiting.is_empty() {
-            if let Err(refusal) = self.make(self.state.next_cast())? {
+            if let Err(refusal) = self.call(&self.state.next_cast())? {
                 self.say_once(format!("{refusal:?}: {refusal}. What you say waits"));
                 break;
             }
@@ -111,7 +172,7 @@ impl Session {
         };
         self.peers.hear(peer, now);
         let other_group = bytes.get(1..).and_then(take_number).map(|(number, _)| number);
-        match self.make(Record::Arrive(bytes))? {
+        match self.call(&Call::Arrive(bytes))? {
             Ok(()) => self.cast_waiting()?,
             Err(Refusal::Impossible) => self.find_used_up(),
             Err(Refusal::TooFar | Refusal::NoMemory) => {}
@@ -151,7 +212,7 @@ impl Session {
         if self.pace.due() > now {
             return Ok(());
         }
-        if let Err(refusal) = self.make(Record::Tick)? {
+        if let Err(refusal) = self.call(&Call::Tick)? {
             self.say_once(format!("{refusal:?}: {refusal}"));
         }
         self.pace.ticked(now, !self.state.is_everywhere() || self.state.misses_something());
@@ -181,7 +242,7 @@ impl Session {
     pub fn say_farewell(&self) {
         if !self.state.is_everywhere() {
             let count = self.state.own_casts() - self.state.member.stable() + self.state.waiting.len() as u32;
-            let rest = if self.journal.is_some() { "the journal has them" } else { "they may be lost" };
+            let rest = if self.notes.is_some() { "the journal has them" } else { "they may be lost" };
             self.screen.say(format!("{count} of your lines are not known to be with everybody; {rest}"));
         }
     }

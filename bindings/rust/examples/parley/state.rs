@@ -1,44 +1,73 @@
-//! What a parley is, but for the world around it: the same records make the same state.
+//! What a parley is, but for the world around it.
 
-use crate::journal::Record;
 use crate::lines::Conference;
-use jolunza::{Awaited, Delayed, Member, Refusal, Settings, LONGEST_PAYLOAD, MOST_MESSAGES};
+use jolunza::{Awaited, Delayed, Member, Refusal, LONGEST_PAYLOAD, MOST_MESSAGES};
 use std::collections::VecDeque;
 
 #[derive(Debug)]
 pub struct State {
     pub member: Member,
     pub conference: Conference,
-    /// Payloads that wait to be cast.
+    /// How many payloads were said in this group. The member casts them in this order.
+    said: u32,
+    /// Those that wait to be cast.
     pub waiting: VecDeque<Vec<u8>>,
     pub room: String,
     /// The group numbers that the member had, with the one that it has.
     pub groups: Vec<u32>,
 }
 
+/// A call of the member.
+#[derive(Clone, Debug, PartialEq, Eq)]
+pub enum Call {
+    /// Of the first payload that waits.
+    Cast,
+    /// Of the first so many that wait, in one frame.
+    Burst(usize),
+    Arrive(Vec<u8>),
+    Tick,
+}
+
 impl State {
-    pub fn new(settings: Settings) -> Result<State, Refusal> {
-        Ok(State {
-            member: Member::open(settings)?,
+    pub fn new(member: Member) -> State {
+        State {
+            groups: vec![member.settings().group],
+            member,
             conference: Conference::default(),
+            said: 0,
             waiting: VecDeque::new(),
             room: "main".into(),
-            groups: vec![settings.group],
-        })
+        }
     }
 
-    /// Does what a record says. Refused, it has changed nothing.
-    pub fn apply(&mut self, record: &Record) -> Result<(), Refusal> {
-        match record {
-            Record::Group(number) => self.begin(*number)?,
-            Record::Room(name) => self.room.clone_from(name),
-            Record::Say(payload) => self.waiting.push_back(payload.clone()),
-            Record::Cast => {
+    /// A member of another group, in the same room.
+    pub fn begin(&mut self, member: Member) {
+        let groups = [self.groups.clone(), vec![member.settings().group]].concat();
+        *self = State { room: self.room.clone(), groups, ..State::new(member) };
+    }
+
+    /// The payload waits, unless it is one of those that the member has cast already.
+    pub fn say(&mut self, payload: Vec<u8>) {
+        self.said += 1;
+        if self.said > self.own_casts() {
+            self.waiting.push_back(payload);
+        }
+    }
+
+    /// Whether all that the member has cast was said.
+    pub fn has_said_all(&self) -> bool {
+        self.said >= self.own_casts()
+    }
+
+    /// Makes a call. Refused, it has changed nothing.
+    pub fn call(&mut self, call: &Call) -> Result<(), Refusal> {
+        match call {
+            Call::Cast => {
                 let payload = self.waiting.front().ok_or(Refusal::NoneThere)?;
                 self.member.cast(payload)?;
                 self.waiting.pop_front();
             }
-            Record::Burst(count) => {
+            Call::Burst(count) => {
                 let payloads: Vec<&[u8]> = self.waiting.iter().take(*count).map(Vec::as_slice).collect();
                 if payloads.len() < *count {
                     return Err(Refusal::NoneThere);
@@ -46,17 +75,9 @@ impl State {
                 self.member.cast_burst(&payloads)?;
                 self.waiting.drain(..*count);
             }
-            Record::Arrive(bytes) => drop(self.member.receive(bytes)?),
-            Record::Tick => self.member.tick()?,
+            Call::Arrive(bytes) => drop(self.member.receive(bytes)?),
+            Call::Tick => self.member.tick()?,
         }
-        Ok(())
-    }
-
-    fn begin(&mut self, number: u32) -> Result<(), Refusal> {
-        let settings = Settings { group: number, ..self.member.settings() };
-        let room = self.room.clone();
-        let groups = [self.groups.clone(), vec![number]].concat();
-        *self = State { room, groups, ..State::new(settings)? };
         Ok(())
     }
 
@@ -65,7 +86,7 @@ impl State {
     }
 
     /// The next cast of what waits: all that one frame can have, or the first.
-    pub fn next_cast(&self) -> Record {
+    pub fn next_cast(&self) -> Call {
         let open = self.member.settings().window - (self.own_casts() - self.member.stable());
         let mut room = LONGEST_PAYLOAD;
         let fits = |payload: &&Vec<u8>| {
@@ -74,8 +95,8 @@ impl State {
             left.is_some()
         };
         match self.waiting.iter().take(MOST_MESSAGES.min(open as usize)).take_while(fits).count() {
-            0 | 1 => Record::Cast,
-            count => Record::Burst(count),
+            0 | 1 => Call::Cast,
+            count => Call::Burst(count),
         }
     }
 
@@ -127,89 +148,106 @@ fn delay_of(delayed: &Delayed) -> String {
 #[cfg(test)]
 mod tests {
     use super::*;
+    use jolunza::Settings;
 
-    fn state() -> State {
-        State::new(Settings { group: 7, size: 2, window: 1, me: 0, history_max: 100 }).unwrap()
+    fn member(group: u32, size: u32, window: u32) -> Member {
+        Member::open(Settings { group, size, window, me: 0, history_max: 100 }).unwrap()
     }
 
-    fn say(text: &str) -> Record {
-        Record::Say(format!("\x01\x04main{text}").into())
+    fn say(state: &mut State, text: &str) {
+        state.say(format!("\x01\x04main{text}").into());
     }
 
     #[test]
     fn what_is_said_waits_until_it_is_cast() {
-        let mut state = state();
-        assert_eq!(state.apply(&Record::Cast), Err(Refusal::NoneThere));
-        for record in [say("a"), say("b"), Record::Cast] {
-            assert_eq!(state.apply(&record), Ok(()));
-        }
-        assert_eq!(state.apply(&Record::Cast), Err(Refusal::WindowFull));
+        let mut state = State::new(member(7, 2, 1));
+        assert_eq!(state.call(&Call::Cast), Err(Refusal::NoneThere));
+        say(&mut state, "a");
+        say(&mut state, "b");
+        assert_eq!(state.call(&Call::Cast), Ok(()));
+        assert_eq!(state.call(&Call::Cast), Err(Refusal::WindowFull));
         assert_eq!((state.waiting.len(), state.own_casts(), state.is_everywhere()), (1, 1, false));
-        state.apply(&Record::Arrive(b"\x12\x07\x01\x01\x00\x01".to_vec())).unwrap();
-        state.apply(&Record::Cast).unwrap();
+        state.call(&Call::Arrive(b"\x12\x07\x01\x01\x00\x01".to_vec())).unwrap();
+        state.call(&Call::Cast).unwrap();
         let payloads: Vec<_> = state.member.new_events().map(|event| event.payload.to_vec()).collect();
         assert_eq!(payloads, [b"\x01\x04maina", b"\x01\x04mainb"]);
     }
 
     #[test]
     fn what_waits_is_cast_as_far_as_it_fits() {
-        let mut state = State::new(Settings { group: 7, size: 2, window: 5, me: 0, history_max: 100 }).unwrap();
-        assert_eq!(state.next_cast(), Record::Cast);
-        assert_eq!(state.apply(&Record::Burst(1)), Err(Refusal::NoneThere));
-        for (text, next) in [("a", Record::Cast), ("b", Record::Burst(2)), (&"c".repeat(1_018), Record::Burst(2))] {
-            state.apply(&say(text)).unwrap();
+        let mut state = State::new(member(7, 2, 5));
+        assert_eq!(state.next_cast(), Call::Cast);
+        assert_eq!(state.call(&Call::Burst(1)), Err(Refusal::NoneThere));
+        for (text, next) in [("a", Call::Cast), ("b", Call::Burst(2)), (&"c".repeat(1_018), Call::Burst(2))] {
+            say(&mut state, text);
             assert_eq!(state.next_cast(), next);
         }
-        assert_eq!(state.apply(&Record::Burst(4)), Err(Refusal::NoneThere));
-        assert_eq!(state.apply(&Record::Burst(3)), Err(Refusal::PayloadTooLong));
-        assert_eq!(state.apply(&Record::Burst(2)), Ok(()));
-        assert_eq!((state.waiting.len(), state.own_casts(), state.next_cast()), (1, 2, Record::Cast));
-        state.apply(&Record::Cast).unwrap();
+        assert_eq!(state.call(&Call::Burst(4)), Err(Refusal::NoneThere));
+        assert_eq!(state.call(&Call::Burst(3)), Err(Refusal::PayloadTooLong));
+        assert_eq!(state.call(&Call::Burst(2)), Ok(()));
+        assert_eq!((state.waiting.len(), state.own_casts(), state.next_cast()), (1, 2, Call::Cast));
+        state.call(&Call::Cast).unwrap();
         for text in ["d", "e", "f"] {
-            state.apply(&say(text)).unwrap();
+            say(&mut state, text);
         }
-        assert_eq!(state.next_cast(), Record::Burst(2));
-        assert_eq!(state.apply(&Record::Burst(3)), Err(Refusal::WindowFull));
-        state.apply(&Record::Burst(2)).unwrap();
-        assert_eq!((state.next_cast(), state.own_casts()), (Record::Cast, 5));
+        assert_eq!(state.next_cast(), Call::Burst(2));
+        assert_eq!(state.call(&Call::Burst(3)), Err(Refusal::WindowFull));
+        state.call(&Call::Burst(2)).unwrap();
+        assert_eq!((state.next_cast(), state.own_casts()), (Call::Cast, 5));
         let numbers: Vec<_> = state.member.new_events().map(|event| event.name.number).collect();
         assert_eq!(numbers, [1, 2, 3, 4, 5]);
     }
 
     #[test]
     fn what_waits_and_who_keeps_the_window_full_is_told() {
-        let mut state = State::new(Settings { group: 7, size: 3, window: 3, me: 0, history_max: 100 }).unwrap();
+        let mut state = State::new(member(7, 3, 3));
         for text in ["a", "b", "c"] {
             assert_eq!(state.why(), ["nothing waits here", "nobody keeps your window full"]);
-            state.apply(&say(text)).unwrap();
-            state.apply(&Record::Cast).unwrap();
+            say(&mut state, text);
+            state.call(&Call::Cast).unwrap();
         }
         let full = |other| format!("{other} keeps your window full: it is known to have 0 of your 3 lines");
         assert_eq!(state.why(), ["nothing waits here".into(), full(1), full(2)]);
         let frames =
             [&b"\x12\x07\x01\x01\x00\x01"[..], b"\x11\x07\x01\x03\x00\x00", b"\x11\x07\x02\x01\x01\x01\x01\x00"];
         for frame in frames {
-            state.apply(&Record::Arrive(frame.to_vec())).unwrap();
+            state.call(&Call::Arrive(frame.to_vec())).unwrap();
         }
         let waits = ["2 messages wait here", "1.3 waits for 1.1 to 1.2", "2.1 waits for 1.1"];
         assert_eq!(state.why()[..3], waits);
         assert_eq!(state.why()[3..], [full(2)]);
         for frame in [b"\x11\x07\x01\x01\x00\x00", b"\x11\x07\x01\x02\x00\x00"] {
-            state.apply(&Record::Arrive(frame.to_vec())).unwrap();
+            state.call(&Call::Arrive(frame.to_vec())).unwrap();
         }
         assert_eq!(state.why(), ["nothing waits here".into(), full(2)]);
     }
 
     #[test]
-    fn a_new_group_has_a_new_member_in_the_same_room() {
-        let mut state = state();
-        let records = [Record::Room("plan".into()), say("a"), Record::Cast, say("b"), Record::Group(8), say("c")];
-        for record in records {
-            state.apply(&record).unwrap();
+    fn what_the_member_has_cast_does_not_wait_again() {
+        let mut first = State::new(member(7, 2, 5));
+        ["a", "b", "c"].iter().for_each(|text| say(&mut first, text));
+        first.call(&Call::Burst(2)).unwrap();
+        let mut back = State::new(first.member);
+        assert!(!back.has_said_all());
+        for (text, waiting) in [("a", 0), ("b", 0), ("c", 1), ("d", 2)] {
+            say(&mut back, text);
+            assert_eq!(back.waiting.len(), waiting, "{text}");
         }
+        assert!(back.has_said_all());
+        assert_eq!(back.waiting, [b"\x01\x04mainc", b"\x01\x04maind"]);
+    }
+
+    #[test]
+    fn a_new_group_has_a_new_member_in_the_same_room() {
+        let mut state = State::new(member(7, 2, 1));
+        state.room = "plan".into();
+        say(&mut state, "a");
+        say(&mut state, "b");
+        state.call(&Call::Cast).unwrap();
+        state.begin(member(8, 2, 1));
+        say(&mut state, "c");
         assert_eq!((state.member.settings().group, state.groups.clone()), (8, vec![7, 8]));
         assert_eq!((state.own_casts(), state.waiting.len(), state.room.as_str()), (0, 1, "plan"));
-        let records = [Record::Group(7), Record::Arrive(vec![0x13])];
-        assert_eq!(records.map(|record| state.apply(&record)), [Ok(()), Err(Refusal::Malformed)]);
+        assert_eq!(state.call(&Call::Arrive(vec![0x13])), Err(Refusal::Malformed));
     }
 }
