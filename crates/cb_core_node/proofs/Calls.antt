@@ -24,8 +24,8 @@ use Rattle.cb_member.specs.CoreMember.{Core, GoesOn, OnEach, StandsFor, grown_by
 use Rattle.cb_member.specs.CoreCalls.{HasReceivedWith, JoinsAs}
 use Rattle.cb_member.specs.Received.{count_said, deliveries_in, received_says, sent_by}
 use Rattle.cb_node.specs.Course.{HasAnswered, Takes, Ticks}
+use Rattle.cb_replay.proofs.Adding.{arrival_adds, cast_adds, tick_adds}
 use Rattle.cb_core_node.specs.Desk.{sent_in}
-use Rattle.cb_core_node.proofs.Adding.{arrival_adds, cast_adds, tick_adds}
 
 -- A call was made on whatever history the member stood for: it answered this to be sent, added this entry, if any, and the events that this
 -- adds joined those of before.

@@ -1,4 +1,3 @@
-pub mod Adding
 pub mod Courses
 pub mod Calls
 pub mod Desks

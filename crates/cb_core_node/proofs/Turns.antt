@@ -1,5 +1,6 @@
 -- Parts of a turn, one behind the other, and what it hands out.
-use Rattle.std.proofs.Common.{◌≡◌, ◌+◌, ℕ, List, ◌++◌, [], length, refl, sym, ap, subst, ◌∙◌, append_assoc, arith}
+use Rattle.std.proofs.Common.{◌≡◌, ◌≢◌, ◌+◌, ℕ, List, ◌++◌, [], length, Result, Ok, Err, refl, sym, ap, subst, ◌∙◌, append_assoc, arith}
+use Rattle.std.specs.Result.{result_and}
 use Rattle.std.proofs.lemmas.List.{append-nil, length-append}
 use Rattle.cb_delay.specs.declared.message.Event.{Event}
 use Rattle.cb_history.specs.declared.answer.Outgoing.{Outgoing}
@@ -7,6 +8,8 @@ use Rattle.cb_history.specs.Facts.{EntryFields}
 use Rattle.cb_history.specs.Group.{Identity}
 use Rattle.cb_member.specs.CoreMember.{StandsFor}
 use Rattle.cb_links.specs.Counts.{held}
+use Rattle.cb_node.specs.declared.fault.TurnFault.{TurnFault}
+use Rattle.cb_node.specs.declared.fault.TurnFault.TheVariants as turns
 use Rattle.cb_node.specs.Turning.{CountsOn}
 use Rattle.cb_core_node.specs.Course.{CoreWork, Goes, Stays}
 use Rattle.cb_core_node.specs.Desk.{CoreState, GoesOnBy, work_with}
@@ -90,3 +93,14 @@ turned {K} has k l n old mid new x y z news gone nothing is handed keeper counte
     (subst (λ (i : K). HasTurned has k i old new x y news) (sym keeper)
     (subst (λ (es : List Event). HasTurned has k l old new x y es) (sym handed)
     (subst (λ (s : CoreState). HasTurned has k l old s x y mid.fresh) (sym is) (handed_out has k l old mid x y gone nothing))))
+
+-- ---- a history without a limit
+
+fault_is : {T : Type 0} (a b : TurnFault) → (let r : Result T TurnFault = Err a in r) ≡ Err b → a ≡ b
+fault_is a b same = cc
+
+-- where no full history hinders either of two parts, none hinders both
+pub neither_full : {T U : Type 0} (a : Result T TurnFault) (b : Result U TurnFault) → a ≢ Err turns.HistoryFull → b ≢ Err turns.HistoryFull → result_and a b ≢ Err turns.HistoryFull
+neither_full (Ok x) b first second full = second full
+neither_full {T = T} {U = U} (Err e) b first second full =
+    first (ap (λ (f : TurnFault). let r : Result T TurnFault = Err f in r) (fault_is {T = U} e turns.HistoryFull full))

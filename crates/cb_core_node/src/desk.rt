@@ -99,7 +99,9 @@ impl CoreDesk {
 
     /// Takes received bytes. A refusal is counted.
     pub fn take<K: Keeper>(&mut self, keeper: &mut K, bytes: Bytes) -> Result<(), TurnFault>
-        ensures { GoesOnBy K.has keeper.old keeper.new (state_in self.old) (state_in self.new) }
+        ensures goes { GoesOnBy K.has keeper.old keeper.new (state_in self.old)
+            (state_in self.new) }
+        ensures no_limit { result ≢ Err TurnFault.HistoryFull }
     {
         if let Some(fault) = self.fault {
             return Err(TurnFault::NotKept(fault));
@@ -166,7 +168,9 @@ impl CoreDesk {
 
     /// Ticks. Answers whether something is missing, so that it was asked for.
     pub fn tick<K: Keeper>(&mut self, keeper: &mut K) -> Result<bool, TurnFault>
-        ensures { GoesOnBy K.has keeper.old keeper.new (state_in self.old) (state_in self.new) }
+        ensures goes { GoesOnBy K.has keeper.old keeper.new (state_in self.old)
+            (state_in self.new) }
+        ensures no_limit { result ≢ Err TurnFault.HistoryFull }
     {
         if let Some(fault) = self.fault {
             return Err(TurnFault::NotKept(fault));
@@ -184,7 +188,7 @@ impl CoreDesk {
                     Err(fault) => Err(TurnFault::NotKept(fault)),
                 }
             }
-            Err(TickRefusal::HistoryFull) => Err(TurnFault::HistoryFull),
+            Err(TickRefusal::HistoryFull) => unreachable!("it has no limit"),
             Err(TickRefusal::NoMemory) => Err(TurnFault::NoMemory),
         }
     }
@@ -192,7 +196,8 @@ impl CoreDesk {
     /// Asks third members for what is missing of each other sender. Where memory is refused the rest
     /// is asked for another time.
     pub fn help(&mut self) -> Result<(), TurnFault>
-        ensures { AsksOn (state_in self.old) (state_in self.new) }
+        ensures asks { AsksOn (state_in self.old) (state_in self.new) }
+        ensures no_limit { result ≢ Err TurnFault.HistoryFull }
     {
         if let Some(fault) = self.fault {
             return Err(TurnFault::NotKept(fault));
@@ -206,7 +211,8 @@ impl CoreDesk {
     /// Asks a third member for what is missing of this sender; of the member's own casts nothing is.
     fn ask(&mut self, sender: u32) -> Result<(), TurnFault>
         requires { self.old.fault ≡ None }
-        ensures { AsksOn (state_in self.old) (state_in self.new) }
+        ensures asks { AsksOn (state_in self.old) (state_in self.new) }
+        ensures no_limit { result ≢ Err TurnFault.HistoryFull }
     {
         let Ok(mut batch) = self.room_to_post() else {
             return Err(TurnFault::NoMemory);
@@ -233,9 +239,10 @@ impl CoreDesk {
 
     /// A frame was refused: counts it. A want of memory hinders a turn, all else is dropped.
     fn refuse(&mut self, refusal: ArriveRefusal) -> Result<(), TurnFault>
-        ensures { self.new ≡ record self.old {
+        ensures counted { self.new ≡ record self.old {
           refused = with_refusal self.old.refused refusal;
         } }
+        ensures no_limit { result ≢ Err TurnFault.HistoryFull }
     {
         self.refused = self.refused.and(refusal);
         match refusal {

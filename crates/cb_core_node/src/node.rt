@@ -1,6 +1,6 @@
 //! A member without a history, with its link and its pace.
 
-ghost use Rattle.std.specs.Prelude.{◌≡◌, ◌≢◌, IfErr, OnErr, OnOk, None, Err, []};
+ghost use Rattle.std.specs.Prelude.{◌≡◌, ◌≢◌, IfErr, IfSome, OnErr, OnOk, None, Err, []};
 ghost use Rattle.cb_frames.specs.Fields.{One};
 ghost use Rattle.cb_history.specs.Load.{many_of};
 ghost use Rattle.cb_node.specs.Refusing.{none_refused};
@@ -165,12 +165,13 @@ impl<I: WaitingInlet, O: Outlet, K: Keeper> CoreNode<I, O, K> {
     ///
     /// Where nothing is there it sleeps in the link until something comes or a tick is due, and no
     /// longer than `longest`. Faults of the link are counted. A fault says what hindered the turn:
-    /// `NoMemory`, or `NotKept`.
+    /// `NoMemory`, or `NotKept`; `HistoryFull` never does.
     pub fn turn<R: Wait + Clock>(&mut self, rt: &R, longest: Duration) -> Result<(), TurnFault>
         ensures turned { HasTurned K.has self.old.keeper self.new.keeper (state_in self.old.desk)
             (state_in self.new.desk) self.old.ends.counts.offered self.new.ends.counts.offered
             self.new.news.items }
         ensures alive { OnOk result (self.new.desk.fault ≡ None) }
+        ensures no_limit { result ≢ Err TurnFault.HistoryFull }
     {
         let hindered = self.work(rt, longest);
         self.hand_out();
@@ -179,11 +180,13 @@ impl<I: WaitingInlet, O: Outlet, K: Keeper> CoreNode<I, O, K> {
     }
 
     /// The turn, without what it hands out.
+    #[tactic(auto, using(crate::proofs::Turns::neither_full))]
     fn work<R: Wait + Clock>(&mut self, rt: &R, longest: Duration) -> Result<(), TurnFault>
         ensures gone { HasGone K.has self.old.keeper self.new.keeper (state_in self.old.desk)
             (state_in self.new.desk) self.old.ends.counts.offered self.new.ends.counts.offered
             (state_in self.new.desk).fresh }
         ensures nothing_waits { (state_in self.new.desk).post ≡ [] }
+        ensures no_limit { result ≢ Err TurnFault.HistoryFull }
     {
         self.send(rt);
         let taken = self.listen(rt, longest);
@@ -216,9 +219,10 @@ impl<I: WaitingInlet, O: Outlet, K: Keeper> CoreNode<I, O, K> {
 
     /// Takes frames until none is there, or so many. Waits only for the first one.
     fn listen<R: Wait + Clock>(&mut self, rt: &R, longest: Duration) -> Result<(), TurnFault>
-        ensures { HasGone K.has self.old.keeper self.new.keeper (state_in self.old.desk)
+        ensures gone { HasGone K.has self.old.keeper self.new.keeper (state_in self.old.desk)
             (state_in self.new.desk) self.old.ends.counts.offered self.new.ends.counts.offered
             (state_in self.new.desk).fresh }
+        ensures no_limit { result ≢ Err TurnFault.HistoryFull }
     {
         let rest = self.pacing.rest(now(rt), self.desk.written);
         let mut wait = shorter(longest, rest);
@@ -235,9 +239,10 @@ impl<I: WaitingInlet, O: Outlet, K: Keeper> CoreNode<I, O, K> {
 
     /// Takes a frame, where one is there or comes within so long.
     fn hear<R: Wait + Clock>(&mut self, rt: &R, wait: Duration) -> Option<Result<(), TurnFault>>
-        ensures { HasGone K.has self.old.keeper self.new.keeper (state_in self.old.desk)
+        ensures gone { HasGone K.has self.old.keeper self.new.keeper (state_in self.old.desk)
             (state_in self.new.desk) self.old.ends.counts.offered self.new.ends.counts.offered
             (state_in self.new.desk).fresh }
+        ensures no_limit { IfSome result (λ taken. taken ≢ Err TurnFault.HistoryFull) }
     {
         match self.ends.receive(rt, wait) {
             Received::Frame(frame) => Some(self.desk.take(&mut self.keeper, frame)),
@@ -247,9 +252,10 @@ impl<I: WaitingInlet, O: Outlet, K: Keeper> CoreNode<I, O, K> {
 
     /// Ticks where the time has come, and behind each fourth tick asks third members.
     fn tick_if_due<R: Clock>(&mut self, rt: &R) -> Result<(), TurnFault>
-        ensures { HasGone K.has self.old.keeper self.new.keeper (state_in self.old.desk)
+        ensures gone { HasGone K.has self.old.keeper self.new.keeper (state_in self.old.desk)
             (state_in self.new.desk) self.old.ends.counts.offered self.new.ends.counts.offered
             (state_in self.new.desk).fresh }
+        ensures no_limit { result ≢ Err TurnFault.HistoryFull }
     {
         let now = now(rt);
         if !self.pacing.rest(now, self.desk.written).is_zero() {
@@ -260,9 +266,10 @@ impl<I: WaitingInlet, O: Outlet, K: Keeper> CoreNode<I, O, K> {
     }
 
     fn tick(&mut self) -> Result<(), TurnFault>
-        ensures { HasGone K.has self.old.keeper self.new.keeper (state_in self.old.desk)
+        ensures gone { HasGone K.has self.old.keeper self.new.keeper (state_in self.old.desk)
             (state_in self.new.desk) self.old.ends.counts.offered self.new.ends.counts.offered
             (state_in self.new.desk).fresh }
+        ensures no_limit { result ≢ Err TurnFault.HistoryFull }
     {
         let asks = self.desk.tick(&mut self.keeper)?;
         let is_quiet = !asks && self.desk.is_stable();

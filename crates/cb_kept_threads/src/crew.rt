@@ -1,6 +1,7 @@
 //! The threads of a member's workers.
 
-ghost use Rattle.std.specs.Prelude.{◌≡◌};
+ghost use Rattle.std.specs.Prelude.{◌≡◌, ◌≤◌, IfSome, MatchOption, None};
+ghost use Rattle.cb_threads.specs.Reports.{count_in};
 
 use crate::board::Board;
 use crate::post::{Post, Posted};
@@ -18,7 +19,7 @@ use std::alloc::{AllocError, Global};
 use std::sync::ledger::Ledger;
 use std::sync::{Mutex, Wait};
 use std::thread;
-use std::thread::{JoinHandle, Scope, Threads};
+use std::thread::{JoinHandle, Promise, PromisedHandle, Scope, Threads};
 use std::time::Clock;
 
 /// One for each worker that works in turns: who takes what is received, who ticks, and who casts what
@@ -78,7 +79,9 @@ pub fn station<'a, L: Ledger>(
     board: &'a Board<'a>,
     slot: Slot<Posted>,
     seat: Seat<L>,
-) -> Station<'a, L> {
+) -> Station<'a, L>
+    ensures { result.board.now.limits ≡ board.now.limits }
+{
     let post = Post::new(slot, &seat, board.kept());
     Station {
         shared,
@@ -104,13 +107,18 @@ pub fn run_crew<
     writer: Writer<O>,
     outbox: &Mutex<Outbox<K>>,
     board: &Board<'_>,
-) -> (Ended<I, P, T, L>, Option<Writing<O>>) {
+) -> (Ended<I, P, T, L>, Option<Writing<O>>)
+    ensures { count_in result.0.receiver (λ w. w.refused)
+        ≤ crew.entry.receiver.station.board.now.limits.turns }
+{
     thread::scope(
         thread::scope_env(),
         rt,
         |scope| -> (Ended<I, P, T, L>, Option<Writing<O>>)
-            ensures { result ≡ result }
+            ensures { count_in result.0.receiver (λ w. w.refused)
+                ≤ crew.entry.receiver.station.board.now.limits.turns }
         {
+            // Taken whole: the clause speaks of it.
             let (workers, sending) = (crew, writer);
             let writer = start_writer(scope, rt, sending, outbox, board);
             if writer.is_none() {
@@ -124,9 +132,19 @@ pub fn run_crew<
                 timer: joined(rt, timer),
                 speaker: joined(rt, speaker),
             };
-            (ended, joined(rt, writer))
+            (ended, joined_writer(rt, writer))
         },
     )
+}
+
+/// A promise: in each of so many turns at most one arrival was refused.
+#[derive(Drop)]
+pub struct OfTurns {
+    pub turns: u64,
+}
+
+impl<W, L: Ledger> Promise<Worked<W, L>> for OfTurns {
+    ghost kept_by = { λ promise worked. worked.refused ≤ promise.turns };
 }
 
 fn start<
@@ -135,14 +153,25 @@ fn start<
     W: Role + Send + Drop + 's,
     L: Ledger + Send + Sync + 's,
     R: Wait + Clock + Sync + 's,
->(scope: &Scope<'s, E>, rt: &'s R, worker: Worker<'s, W, L>) -> Option<JoinHandle<Worked<W, L>>> {
-    scope.spawn(move || run_worker(rt, worker)).ok()
+>(
+    scope: &Scope<'s, E>,
+    rt: &'s R,
+    worker: Worker<'s, W, L>,
+) -> Option<PromisedHandle<Worked<W, L>, OfTurns>>
+    ensures { IfSome result (λ handle. handle.promise.turns
+        ≡ worker.entry.station.board.now.limits.turns) }
+{
+    let promise = OfTurns {
+        turns: worker.station.board.limits.turns,
+    };
+    scope
+        .spawn_with(promise, move || run_worker(rt, worker))
+        .ok()
 }
 
-fn run_worker<W: Role, L: Ledger, R: Wait + Clock>(
-    rt: &R,
-    worker: Worker<'_, W, L>,
-) -> Worked<W, L> {
+fn run_worker<W: Role, L: Ledger, R: Wait + Clock>(rt: &R, worker: Worker<'_, W, L>) -> Worked<W, L>
+    ensures { result.refused ≤ worker.entry.station.board.now.limits.turns }
+{
     let Worker { role, station } = worker;
     work(rt, role, station)
 }
@@ -178,7 +207,24 @@ fn run_writer<O: Outlet, K: Keeper, R: Wait>(
 }
 
 /// Waits for a worker, where its thread could be started.
-fn joined<D: Drop, R: Threads>(rt: &R, handle: Option<JoinHandle<D>>) -> Option<D> {
+fn joined<D: Drop, C: Promise<D>, R: Threads>(
+    rt: &R,
+    handle: Option<PromisedHandle<D, C>>,
+) -> Option<D>
+    ensures { MatchOption handle (result ≡ None)
+        (λ handle. IfSome result (λ worked. C.kept_by handle.promise worked)) }
+{
+    match handle {
+        Some(handle) => Some(handle.join(rt)),
+        None => None,
+    }
+}
+
+/// The same for the writer.
+fn joined_writer<O: Drop, R: Threads>(
+    rt: &R,
+    handle: Option<JoinHandle<Writing<O>>>,
+) -> Option<Writing<O>> {
     match handle {
         Some(handle) => Some(handle.join(rt)),
         None => None,

@@ -57,6 +57,7 @@ pub fn run_member_kept<
 ) -> (KeptReport<I, O, P, T, K>, Vec<Seat<L>>)
     ensures seats { result.0.fault ≡ None → vec_len result.1 ≡ 3 }
     ensures parts { HandsBack result.0 }
+    ensures refused { result.0.refused ≤ limits.turns }
 {
     let board = Board::new(alloc, limits, stop, outbox.kept(), outbox.shown());
     let (receiver, timer, speaker) = seats;
@@ -107,6 +108,8 @@ fn run_at<
     requires room { 3 ≤ vec_capacity list }
     ensures seats { result.0.fault ≡ None → vec_len result.1 ≡ 3 }
     ensures parts { HandsBack result.0 }
+    ensures refused { result.0.refused
+        ≤ crew.entry.receiver.station.board.now.limits.turns }
 {
     let outbox = Mutex::new(outbox);
     let (ended, written) = run_crew(rt, crew, writer, &outbox, board);
@@ -135,7 +138,9 @@ fn make_crew<'a, I, O, P, T, L: Ledger>(
     seats: Seats<L>,
     slots: Slots,
     parts: Parts<I, O, P, T>,
-) -> (Crew<'a, I, P, T, L>, Writing<O>) {
+) -> (Crew<'a, I, P, T, L>, Writing<O>)
+    ensures { result.0.receiver.station.board.now.limits ≡ board.now.limits }
+{
     let Parts {
         link: (inlet, outlet),
         pace,
@@ -167,6 +172,7 @@ fn unstarted<I, O, P, T, K, L: Ledger>(
 ) -> (KeptReport<I, O, P, T, K>, Vec<Seat<L>>)
     ensures fault { result.0.fault ≡ Some NoMemory }
     ensures parts { HandsBack result.0 }
+    ensures refused { result.0.refused ≡ 0 }
 {
     let mut list = list;
     drop(list.push(seats.receiver));

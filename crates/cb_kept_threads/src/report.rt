@@ -2,6 +2,7 @@
 
 ghost use Rattle.std.specs.Prelude.{◌≡◌, ◌≤◌, ◌<◌, ◌+◌, None, if◌then◌else◌, is_some, true};
 ghost use Rattle.std.specs.Vec.{vec_capacity, vec_len};
+ghost use Rattle.cb_threads.specs.Reports.{count_in};
 ghost use Rattle.cb_kept_threads.specs.Reports.{HandsBack};
 
 use crate::crew::Ended;
@@ -56,6 +57,7 @@ pub fn reported<I, O, P, T, K, L: Ledger>(
     requires { vec_len list + 3 ≤ vec_capacity list }
     ensures seats { result.0.fault ≡ None → vec_len result.1 ≡ vec_len list + 3 }
     ensures parts { HandsBack result.0 }
+    ensures refused { result.0.refused ≡ count_in ended.receiver (λ w. w.refused) }
 {
     let fault = fault_of(&ended, written.is_some());
     let mut seats = list;
@@ -91,6 +93,7 @@ fn parted<W, L: Ledger>(
 ) -> (Option<W>, Counted)
     requires { vec_len seats.old < vec_capacity seats.old }
     ensures part { is_some result.0 ≡ is_some worked }
+    ensures refused { result.1.refused ≡ count_in worked (λ w. w.refused) }
     ensures seat { vec_len seats.new ≡ (if is_some worked then vec_len seats.old + 1
         else vec_len seats.old) }
     ensures room { vec_capacity seats.new ≡ vec_capacity seats.old }
@@ -134,7 +137,9 @@ fn outlet_of<O>(written: Option<Writing<O>>) -> (Option<O>, Counted)
     }
 }
 
-fn nothing() -> Counted {
+fn nothing() -> Counted
+    ensures { result.refused ≡ 0 }
+{
     Counted {
         lost: 0,
         failures: 0,

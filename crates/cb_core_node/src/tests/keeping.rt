@@ -95,11 +95,13 @@ fn what_was_handed_out_is_gone_in_the_next_turn(rt: HostRuntime) {
     let shown = node.news().len();
     let later = node.turn(&timed, Duration::ZERO).is_ok();
     let gone = node.news().is_empty();
+    let last = node.turn(&timed, Duration::ZERO).is_ok();
+    let none_again = node.news().is_empty();
     let (member, keeper) = node.into_parts();
     let own = member.delivered_of(1);
     drop(member);
     drop(inlet);
-    assert!(&rt; cast && turned && later);
-    assert!(&rt; before == 0 && shown == 1 && gone);
+    assert!(&rt; cast && turned && later && last);
+    assert!(&rt; before == 0 && shown == 1 && gone && none_again);
     assert!(&rt; own == Some(1) && keeper.left == 98);
 }

@@ -5,4 +5,4 @@ pub returns-clause-gone : goal.returns-clause-gone
 returns-clause-gone g c =
     let has = g.K.Keeper.has in
     go_on has _ _ _ _ _ _ _ _ _ _ c.send.ensures.gone
-    (go_on has _ _ _ _ _ _ _ _ _ _ c.listen-taken.ensures (go_on has _ _ _ _ _ _ _ _ _ _ c.tick_if_due-ticked.ensures c.send-2.ensures.gone))
+    (go_on has _ _ _ _ _ _ _ _ _ _ c.listen-taken.ensures.gone (go_on has _ _ _ _ _ _ _ _ _ _ c.tick_if_due-ticked.ensures.gone c.send-2.ensures.gone))
