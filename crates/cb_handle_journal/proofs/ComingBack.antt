@@ -1,5 +1,5 @@
 -- A member that has taken a journal is the one whose journal it is, and why none is.
-use Rattle.std.proofs.Common.{◌≡◌, ℕ, ◌<◌, ◌≤◌, List, [], length, map, Err, Ok, refl, sym, ap, subst, ◌∙◌, arith}
+use Rattle.std.proofs.Common.{◌≡◌, ℕ, ◌<◌, List, [], length, map, Err, Ok, refl, sym, ap, subst, ◌∙◌, arith}
 use Rattle.std.proofs.lemmas.List.{length-map}
 use Rattle.cb_delay.specs.declared.message.Event.{Event}
 use Rattle.cb_history.specs.Events.{events}
