@@ -42,3 +42,4 @@ pub mod Replays
 pub mod Taking
 pub mod Whole
 pub mod Relays
+mod SameNames

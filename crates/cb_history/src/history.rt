@@ -1,6 +1,7 @@
 //! What a member stores: all that ever changed its state.
 
 ghost use Rattle.std.specs.Prelude.{◌≡◌, IfOk, map};
+ghost use Rattle.std.specs.Bool.{Decides};
 ghost use Rattle.cb_history.specs.Facts.{entry_fields};
 
 use crate::group::Group;
@@ -55,6 +56,27 @@ impl Entry {
         })
     }
 
+    /// Whether they are the same entry, wherever their bytes lie in memory.
+    pub fn is_same(&self, other: &Entry) -> bool
+        ensures { Decides result (entry_fields self.now ≡ entry_fields other.now) }
+    {
+        match (self, other) {
+            (Entry::Cast { frame: a }, Entry::Cast { frame: b }) => a == b,
+            (Entry::Tick { status: a }, Entry::Tick { status: b }) => a == b,
+            (
+                Entry::Arrive {
+                    frame: a,
+                    delivered,
+                },
+                Entry::Arrive {
+                    frame: b,
+                    delivered: others,
+                },
+            ) => a == b && are_same_names(delivered, others),
+            _ => false,
+        }
+    }
+
     /// Copies of these entries, in order.
     pub fn copies(alloc: Global, entries: &[Entry]) -> Result<Vec<Entry>, NoMemory>
         ensures { IfOk result (λ copies. map entry_fields copies.items
@@ -82,4 +104,10 @@ impl History {
             entries,
         })
     }
+}
+
+fn are_same_names(names: &[Name], others: &[Name]) -> bool
+    ensures { Decides result (names.now ≡ others.now) }
+{
+    names == others
 }

@@ -1,6 +1,6 @@
 //! The receipts of all seats against the history.
 
-ghost use Rattle.std.specs.Prelude.{◌≡◌, ℕ, suc, List, [], Some, false, map, length, slice_get, IfOk, IfSome, MatchOption, Decides, min, replicate};
+ghost use Rattle.std.specs.Prelude.{◌≡◌, ℕ, suc, List, [], Some, false, map, length, slice_get, IfOk, IfSome, MatchOption, min, replicate};
 ghost use Rattle.cb_history.specs.Facts.{entry_fields};
 ghost use Rattle.cb_lock.specs.Receipts.{receipt_fields};
 ghost use Rattle.cb_lock.specs.Claims.{IsRight, claim, receipts_of};
@@ -9,7 +9,7 @@ ghost use Rattle.cb_lock.specs.FaultText.{close_fault_text};
 ghost use Rattle.cb_lock.specs.Seen.{Marks, Checks, ChecksSeat};
 
 use crate::seat::{Receipt, Seat};
-use cb_member::{Entry, Identity, Member, Name, NoMemory};
+use cb_member::{Entry, Identity, Member, NoMemory};
 use std::alloc::Global;
 use std::error::Error;
 use std::fmt;
@@ -171,34 +171,8 @@ fn right_index(entries: &[Entry], seen: &[bool], last: usize, receipt: &Receipt)
     if receipt.place <= last {
         return None;
     }
-    if !is_same(entry, &receipt.entry) {
+    if !entry.is_same(&receipt.entry) {
         return None;
     }
     Some(index)
-}
-
-fn is_same(entry: &Entry, other: &Entry) -> bool
-    ensures { Decides result (entry_fields entry.now ≡ entry_fields other.now) }
-{
-    match (entry, other) {
-        (Entry::Cast { frame: a }, Entry::Cast { frame: b }) => a == b,
-        (Entry::Tick { status: a }, Entry::Tick { status: b }) => a == b,
-        (
-            Entry::Arrive {
-                frame: a,
-                delivered,
-            },
-            Entry::Arrive {
-                frame: b,
-                delivered: others,
-            },
-        ) => a == b && are_same_names(delivered, others),
-        _ => false,
-    }
-}
-
-fn are_same_names(names: &[Name], others: &[Name]) -> bool
-    ensures { Decides result (names.now ≡ others.now) }
-{
-    names == others
 }

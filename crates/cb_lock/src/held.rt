@@ -32,6 +32,12 @@ pub struct Held<L: Ledger> {
     pub(crate) book: Book<L>,
 }
 
+/// Out of memory for the receipts, and the member as it was.
+#[derive(Drop)]
+pub struct ShareRefusal {
+    pub member: Member,
+}
+
 impl<L: Ledger> Model for Held<L> {
     ghost use Rattle.cb_history.specs.State.{MemberState};
     ghost use Rattle.cb_lock.specs.Held.{IsHeld};
@@ -61,12 +67,12 @@ impl<L: Ledger> Held<L> {
 
     /// A member with entries, with the first seat, which has every part of the ledger and a receipt for each of these entries.
     ///
-    /// The only error is out of memory for the receipts. Then the member is dropped.
+    /// The only error is out of memory for the receipts. It hands the member back.
     pub fn going_on(
         alloc: Global,
         blank: Blank,
         member: Member,
-    ) -> Result<(Held<L>, Seat<L>), NoMemory>
+    ) -> Result<(Held<L>, Seat<L>), ShareRefusal>
         requires name { blank.name ≡ L.name }
         requires parts { blank.parts ≡ L.parts }
         requires some { 1 ≤ blank.parts }
@@ -75,8 +81,11 @@ impl<L: Ledger> Held<L> {
           parts = L.parts;
           receipts = receipts_of_history member.entries;
         }) }
+        ensures refused { IfErr result (λ refusal. refusal.member ≡ member) }
     {
-        let receipts = receipts_of(alloc, member.history())?;
+        let Ok(receipts) = receipts_of(alloc, member.history()) else {
+            return Err(ShareRefusal { member });
+        };
         let (mut book, mut share) = blank.open::<L>();
         book.add(&mut share, receipts.len() as u64);
         Ok((Held { member, book }, Seat { receipts, share }))

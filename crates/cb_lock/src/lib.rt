@@ -15,7 +15,7 @@ mod seat;
 mod shared;
 
 pub use closing::{CloseFault, CloseRefusal, Closed};
-pub use held::Held;
+pub use held::{Held, ShareRefusal};
 pub use payloads::{Payloads, Tried};
 pub use seat::{Receipt, Seat};
 pub use shared::SharedMember;

@@ -9,13 +9,13 @@ ghost use Rattle.cb_lock.specs.Closing.{IsFault, IsClosed};
 ghost use Rattle.cb_lock.specs.Receipts.{receipts_of_history};
 
 use crate::closing::{CloseFault, CloseRefusal, Closed, fault_of};
-use crate::held::Held;
+use crate::held::{Held, ShareRefusal};
 use crate::payloads::{Payloads, Tried};
 use crate::seat::Seat;
 use bytes::Bytes;
 use cb_member::{
     Arrival, ArriveRefusal, BurstDone, BurstRefusal, CastDone, CastRefusal, Identity, Member,
-    NoMemory, Outgoing, TickRefusal, Ticked,
+    Outgoing, TickRefusal, Ticked,
 };
 use std::alloc::Global;
 use std::sync::ledger::{Blank, Ledger};
@@ -51,12 +51,12 @@ impl<L: Ledger> SharedMember<L> {
     /// A member that has entries, as one that came back by its journal, behind a lock of its own. The first seat has every part of the
     /// ledger, and a receipt for each of these entries: `close` wants it beside the seats that are split off it.
     ///
-    /// The only error is out of memory for the receipts. Then the member is dropped.
+    /// The only error is out of memory for the receipts. It hands the member back.
     pub fn going_on(
         alloc: Global,
         blank: Blank,
         member: Member,
-    ) -> Result<(SharedMember<L>, Seat<L>), NoMemory>
+    ) -> Result<(SharedMember<L>, Seat<L>), ShareRefusal>
         requires name { blank.name ≡ L.name }
         requires parts { blank.parts ≡ L.parts }
         requires some { 1 ≤ blank.parts }
@@ -65,6 +65,7 @@ impl<L: Ledger> SharedMember<L> {
           parts = L.parts;
           receipts = receipts_of_history member.entries;
         }) }
+        ensures refused { IfErr result (λ refusal. refusal.member ≡ member) }
     {
         let identity = member.seat();
         let (held, seat) = Held::going_on(alloc, blank, member)?;

@@ -1,9 +1,6 @@
 -- Replaying a history: what a member that has the entries so far says of the next one.
-use Rattle.std.proofs.Common.{◌≡◌, ℕ, zero, suc, ◌+◌, ◌<◌, Bool, false, ◌==◌, ◌&&◌, List, [], ◌∷◌, ◌++◌, length, map, take, drop, get_or, sym, ap, subst, ◌∙◌, arith, ◌⊎◌, inl, inr, Some}
-use Rattle.std.specs.Prelude.{Decides}
-use Rattle.std.proofs.lemmas.Bool.{eqb-true, eq-eqb, and_parts, and_from}
+use Rattle.std.proofs.Common.{◌≡◌, ℕ, zero, suc, ◌+◌, ◌<◌, Bool, false, List, [], ◌∷◌, ◌++◌, length, map, take, drop, get_or, sym, ap, subst, ◌∙◌, arith, ◌⊎◌, inl, inr, Some}
 use Rattle.std.proofs.lemmas.List.{map-append, length-map, length-take-le, take_more}
-use Rattle.cb_times.specs.declared.name.Name.{Name}
 use Rattle.cb_history.specs.declared.history.Entry.{Entry}
 use Rattle.cb_history.specs.Group.{Identity}
 use Rattle.cb_history.specs.Facts.{EntryFields, entry_fields}
@@ -12,13 +9,6 @@ use Rattle.cb_history.specs.ReplayLaws.{call_of}
 use Rattle.cb_history.specs.State.{MemberState, IsMemberState}
 use Rattle.cb_history.proofs.Calls.{entry_with_room, entry_in_limit}
 use Rattle.cb_replay.specs.Replaying.{SaysAdded, IsFirstWrong, HasRoom}
-
--- names are the same where sender and number are
-pub same_name : (a b : Name) → Decides (a.sender == b.sender && a.number == b.number) (a ≡ b)
-same_name a b = (
-  λ t. let p = and_parts (a.sender == b.sender) (a.number == b.number) t in let s = eqb-true a.sender b.sender p.0 in let n = eqb-true a.number b.number p.1 in λ i. record { sender = s i; number = n i },
-  λ e. and_from (a.sender == b.sender) (a.number == b.number) (eq-eqb a.sender b.sender (ap (λ (x : Name). x.sender) e)) (eq-eqb a.number b.number (ap (λ (x : Name). x.number) e)),
-)
 
 pub parts_at : (entries : List Entry) (i : ℕ) (e : Entry) → i < length entries → e ≡ get_or entries i e → entries ≡ take i entries ++ e ∷ drop (suc i) entries
 parts_at [] i e lt is = absurd (omega (arith, lt))

@@ -18,4 +18,3 @@ pub use load::{Load, slices_of};
 pub use replaying::replay;
 pub use resuming::resume;
 pub use returning::{Returning, resume_core};
-pub use same::is_same;

@@ -10,7 +10,7 @@ ghost use Rattle.cb_replay.specs.Loads.{load_fields};
 ghost use Rattle.cb_replay.specs.Replaying.{HasRoom, SaysAdded, SaysReplayed};
 
 use crate::load::{Load, slices_of};
-use crate::same::{is_noted, is_same};
+use crate::same::is_noted;
 use bytes::Bytes;
 use cb_member::{ArriveRefusal, BurstRefusal, CastRefusal, Entry, Member, NoMemory, TickRefusal};
 use std::alloc::{AllocError, Global};
@@ -75,7 +75,7 @@ fn casts(member: &mut Member, payload: &[u8], entry: &Entry) -> Result<bool, NoM
         (entry_fields entry.now)) }
 {
     match member.cast_noted(payload) {
-        Ok((_done, noted)) => Ok(is_same(&noted, entry)),
+        Ok((_done, noted)) => Ok(noted.is_same(entry)),
         Err(CastRefusal::NoMemory) => Err(AllocError),
         Err(_refusal) => Ok(false),
     }
@@ -86,7 +86,7 @@ fn casts_burst(member: &mut Member, payloads: &[&[u8]], entry: &Entry) -> Result
         (entry_fields entry.now)) }
 {
     match member.cast_burst_noted(payloads) {
-        Ok((_done, noted)) => Ok(is_same(&noted, entry)),
+        Ok((_done, noted)) => Ok(noted.is_same(entry)),
         Err(BurstRefusal::NoMemory) => Err(AllocError),
         Err(_refusal) => Ok(false),
     }

@@ -50,7 +50,8 @@ impl Returning {
         }
     }
 
-    /// Takes the next entry: the core makes the call that it tells, whose events join the caller's. Who wants them not clears the list.
+    /// Takes the next entry: the core makes the call that it tells, whose events join the caller's. A caller that does not want
+    /// them clears the list.
     ///
     /// `NotLegal`, with the entry's number from 1 on, where the call does not add just this entry; `NoMemory` may stand in place of any answer.
     pub fn take(

@@ -35,8 +35,8 @@ impl fmt::Display for WorkerFault {
 
 impl Error for WorkerFault {}
 
-/// What became of a member's workers. Each count stays at its greatest value; the first three are
-/// those of the receipts in the seats, or of the whole history of a member of a group.
+/// What became of a member's workers. Each count stays at its greatest value. The first three count
+/// the receipts in the seats that are handed back; in the report of a group, the whole history.
 #[derive(Drop)]
 pub struct MemberReport<I, O, P, T> {
     /// The messages that the member cast.

@@ -40,7 +40,8 @@ fn shared_again<L: Ledger, R: Abort>(
     requires parts { (blank.parts ≡ L.parts) × (1 ≤ blank.parts) }
     ensures { result.1.parts ≡ blank.parts }
 {
-    SharedMember::<L>::going_on(alloc, blank, with_three_entries(rt, alloc)).expect(rt, "memory")
+    let shared = SharedMember::<L>::going_on(alloc, blank, with_three_entries(rt, alloc));
+    shared.ok().expect(rt, "memory")
 }
 
 fn closes_as<L: Ledger>(

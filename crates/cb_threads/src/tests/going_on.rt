@@ -43,7 +43,8 @@ fn runs<L: Ledger + Send + Sync, R: Threads + Wait + Clock + Abort + Sync>(
     requires { (blank.name ≡ L.name) × (blank.parts ≡ L.parts) × (blank.parts ≡ 5) }
 {
     let member = cast_twice(rt, alloc);
-    let (shared, seat) = SharedMember::<L>::going_on(alloc, blank, member).expect(rt, "memory");
+    let shared = SharedMember::<L>::going_on(alloc, blank, member);
+    let (shared, seat) = shared.ok().expect(rt, "memory");
     let (workers, beside) = seats_of(seat, works);
     let (counted, sent, seen, mut seats) = works_once(rt, alloc, &shared, workers);
     seats.push(beside).expect(rt, "memory");
