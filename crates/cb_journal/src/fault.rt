@@ -15,7 +15,8 @@ use std::io::ErrorKind;
 /// Why no journal was read.
 #[derive(Clone, Copy, Debug, PartialEq, Eq, Hash)]
 pub enum ReadFault {
-    /// No line is whole: the crash was before the head line stood, so no entry was written yet. Begin the journal anew.
+    /// No line is whole. Where the bytes are a beginning of the head line, or none, no entry was written yet: begin the journal.
+    /// Else they are no journal.
     NoHead,
     /// This line, counted from 1, is whole and is not what must stand there: not a crash of the writer made it so.
     BadLine { line: u64 },
