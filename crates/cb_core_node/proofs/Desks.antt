@@ -20,6 +20,7 @@ use Rattle.cb_journal.specs.declared.keeper.KeepFault.{KeepFault}
 use Rattle.cb_node.specs.Course.{Asks, MayRefuse, to_all}
 use Rattle.cb_node.specs.Refusing.{with_refusal}
 use Rattle.cb_node.specs.Desk.{frames_in}
+use Rattle.cb_node.proofs.Keeping.{keeps_all, keeps_none, keeps_nothing, keeps_same, keeps_then}
 use Rattle.cb_core_node.specs.declared.desk.CoreDesk.{CoreDesk}
 use Rattle.cb_core_node.specs.Course.{Answers, Goes, Refuses, Stays}
 use Rattle.cb_core_node.specs.Desk.{AsksOn, CastsOn, CoreState, IsSameWork, GoesOnBy, MayHave, state_in, work_with}
@@ -36,7 +37,7 @@ same_desk d core post fresh c p f =
     ap (λ (x : Core). s x post.items fresh.items) c ∙ ap (λ (y : List (Vec Outgoing Global)). s d.core y fresh.items) p ∙ ap (s d.core d.post.items) f
 
 stays : {K : Type 0} (has : K → List EntryFields → Type 0) (k : K) (s : CoreState) → GoesOnBy has k k s s
-stays has k s = record { seat = refl; each = λ es may. record { kept = es; stands = may; course = Stays (work_with s es); keeps = λ alive. (alive, λ h. h) } }
+stays has k s = record { seat = refl; each = λ es may. record { kept = es; stands = may; course = Stays (work_with s es); keeps = keeps_nothing has k s.fault es } }
 
 pub goes_on_same : {K : Type 0} (has : K → List EntryFields → Type 0) (k l : K) (old new : CoreState) → l ≡ k → new ≡ old → GoesOnBy has k l old new
 goes_on_same {K} has k l old new keeper same =
@@ -59,7 +60,7 @@ module _ {K : Type 0} (has : K → List EntryFields → Type 0) (k l : K) (old n
           stands = λ _. called.goes_on.stands es st;
           course = ends_in old.core.seat (work_with old es) (state_after m call).entries (old.post ++ out) new.post (old.fresh ++ more.0) new.fresh old.refused new.refused post more.1 refused
               (Answers (work_with old es) (work_with old es) (state_after m call) out more.0 (Stays (work_with old es)) (called.answered es st) more.2);
-          keeps = λ _. (alive, λ h. subst (λ (xs : List EntryFields). has l xs) (sym (ap (and_entry es) (called.entry es st))) (keep es h));
+          keeps = keeps_all has k l old.fault new.fault es (state_after m call).entries alive (λ h. subst (λ (xs : List EntryFields). has l xs) (sym (ap (and_entry es) (called.entry es st))) (keep es h));
         };
   }
 
@@ -78,7 +79,7 @@ module _ {K : Type 0} (has : K → List EntryFields → Type 0) (k l : K) (old n
       kept = es;
       stands = λ none. absurd cc;
       course = ends_in old.core.seat (work_with old es) es old.post new.post old.fresh new.fresh old.refused new.refused post fresh refused (Stays (work_with old es));
-      keeps = λ none. absurd cc;
+      keeps = keeps_none has k l old.fault new.fault es es fault failed refl;
     };
   }
 
@@ -92,7 +93,7 @@ module _ {K : Type 0} (has : K → List EntryFields → Type 0) (k l : K) (old n
       stands = λ _. subst (λ (c : Core). StandsFor es c) (sym core) (may alive);
       course = ends_in old.core.seat (work_with old es) es old.post new.post old.fresh new.fresh (with_refusal old.refused refusal) new.refused post fresh refused
           (Refuses (work_with old es) (work_with old es) bytes refusal (Stays (work_with old es)) (may_refuse es (may alive)));
-      keeps = λ _. (alive, λ h. subst (λ (x : K). has x es) (sym keeper) h);
+      keeps = keeps_all has k l old.fault new.fault es es alive (λ h. subst (λ (x : K). has x es) (sym keeper) h);
     };
   }
 
@@ -170,7 +171,7 @@ goes_by_asking has k old new asks = record {
     kept = es;
     stands = may_still old new asks.same es may;
     course = asks.each es may;
-    keeps = λ none. (sym (ap (λ (s : CoreState). s.fault) asks.same) ∙ none, λ h. h);
+    keeps = keeps_same has k k old.fault new.fault es es refl (ap (λ (s : CoreState). s.fault) asks.same) refl;
   };
 }
 
@@ -186,10 +187,7 @@ goes_on_then has k l m a b c first second = record {
         stands = two.stands;
         course = and_then a.core.seat (work_with a es) (work_with b one.kept) (work_with c two.kept) one.course
             (subst (λ (i : Identity). Goes i (work_with b one.kept) (work_with c two.kept)) first.seat two.course);
-        keeps = λ none.
-            let now = two.keeps none in
-            let was = one.keeps now.0 in
-            (was.0, λ h. now.1 (was.1 h));
+        keeps = keeps_then has k l m a.fault b.fault c.fault es one.kept two.kept one.keeps two.keeps;
       };
 }
 

@@ -11,6 +11,7 @@ use Rattle.cb_links.specs.Counts.{held}
 use Rattle.cb_node.specs.declared.fault.TurnFault.{TurnFault}
 use Rattle.cb_node.specs.declared.fault.TurnFault.TheVariants as turns
 use Rattle.cb_node.specs.Turning.{CountsOn}
+use Rattle.cb_node.proofs.Keeping.{keeps_same, keeps_then}
 use Rattle.cb_core_node.specs.Course.{CoreWork, Goes, Stays}
 use Rattle.cb_core_node.specs.Desk.{CoreState, GoesOnBy, work_with}
 use Rattle.cb_core_node.specs.Turning.{HasGone, HasTurned}
@@ -41,7 +42,7 @@ by_sending has k old new before after same counted = record {
     course = ends_in old.core.seat (work_with old es) es old.post (old.post ++ new.post) old.fresh new.fresh old.refused new.refused
         (ap (λ (s : CoreState). old.post ++ s.post) same ∙ append-nil old.post) (ap (λ (s : CoreState). s.fresh) same) (ap (λ (s : CoreState). s.refused) same) (Stays (work_with old es));
     counted = counted;
-    keeps = λ none. (sym (ap (λ (s : CoreState). s.fault) same) ∙ none, λ h. h);
+    keeps = keeps_same has k k old.fault new.fault es es refl (ap (λ (s : CoreState). s.fault) same) refl;
   };
 }
 
@@ -66,10 +67,7 @@ go_on has k l m a b c x y z fresh first second = record {
         stands = two.stands;
         course = subst (λ (p : List Outgoing). Goes seat (work_with a es) (record { entries = two.kept; post = p; fresh = fresh; refused = c.refused })) (sym (append_assoc one.sent two.sent c.post)) all;
         counted = count_on x y z (length one.sent) (length two.sent) (length (one.sent ++ two.sent)) one.counted two.counted (length-append one.sent two.sent);
-        keeps = λ none.
-            let now = two.keeps none in
-            let was = one.keeps now.0 in
-            (was.0, λ h. now.1 (was.1 h));
+        keeps = keeps_then has k l m a.fault b.fault c.fault es one.kept two.kept one.keeps two.keeps;
       };
 }
 

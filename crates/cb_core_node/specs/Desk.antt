@@ -22,6 +22,7 @@ use Rattle.cb_journal.specs.declared.keeper.KeepFault.{KeepFault}
 use Rattle.cb_node.specs.declared.refused.Refused.{Refused}
 use Rattle.cb_node.specs.Course.{to_all}
 use Rattle.cb_node.specs.Desk.{frames_in}
+use Rattle.cb_node.specs.Keeping.{Keeps}
 use Rattle.cb_core_node.specs.declared.desk.CoreDesk.{CoreDesk}
 use Rattle.cb_core_node.specs.Course.{CoreWork, Goes}
 
@@ -50,13 +51,13 @@ work_with s entries = record { entries = entries; post = s.post; fresh = s.fresh
 
 -- ---- received bytes, and ticks
 
--- Where these entries were kept, others are behind them now, by such calls. As long as nothing fails, and nothing had failed, what the
--- keeper has goes on with what is kept.
+-- Where these entries were kept, others are behind them now, by such calls; nothing else is to be sent or handed out. What the keeper has
+-- goes on with what is kept, up to where it fails.
 pub record GoesFor {K : Type 0} (has : K → List EntryFields → Type 0) (before after : K) (old new : CoreState) (entries : List EntryFields) : Type 0 where
   pub kept : List EntryFields
   pub stands : MayHave new kept
   pub course : Goes old.core.seat (work_with old entries) (work_with new kept)
-  pub keeps : new.fault ≡ None → (old.fault ≡ None) × (has before entries → has after kept)
+  pub keeps : Keeps has before after old.fault new.fault entries kept
 
 -- so it is whatever entries were kept
 pub record GoesOnBy {K : Type 0} (has : K → List EntryFields → Type 0) (before after : K) (old new : CoreState) : Type 0 where

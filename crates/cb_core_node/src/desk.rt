@@ -4,13 +4,16 @@
 //! is made before the call, so what it answers is posted whole.
 
 ghost use Rattle.std.specs.Prelude.{◌≡◌, ◌≢◌, ◌≤◌, ◌<◌, ◌∷◌, ◌++◌, [], Err, IfErr, IfOk, None, OnErr, OnOk, Some, List, length, option_map, take};
+ghost use Rattle.std.specs.Bool.{Decides};
 ghost use Rattle.std.specs.Vec.{vec_capacity, vec_len};
 ghost use Rattle.cb_frames.specs.Fields.{One};
 ghost use Rattle.cb_history.specs.Facts.{EntryFields, entry_fields};
 ghost use Rattle.cb_history.specs.Legal.{and_entry};
 ghost use Rattle.cb_history.specs.Load.{many_of};
 ghost use Rattle.cb_node.specs.Course.{to_all};
+ghost use Rattle.cb_member.specs.CoreMember.{OnEach};
 ghost use Rattle.cb_node.specs.Desk.{frames_in};
+ghost use Rattle.cb_node.specs.Kept.{AreOwnStable};
 ghost use Rattle.cb_node.specs.Refusing.{none_refused, with_refusal};
 ghost use Rattle.cb_core_node.specs.Desk.{AsksOn, CastsOn, GoesOnBy, RefusesBurstAt, RefusesCastAt, IsSameWork, all_kept, sent_in, state_in};
 
@@ -230,11 +233,10 @@ impl CoreDesk {
     }
 
     /// Whether every other member is known to have delivered all own casts.
-    pub fn is_stable(&self) -> bool {
-        match self.core.delivered_of(self.core.seat().me()) {
-            Some(own) => own == self.core.stable(),
-            None => false,
-        }
+    pub fn is_stable(&self) -> bool
+        ensures { OnEach self.now.core (λ m. Decides result (AreOwnStable m)) }
+    {
+        self.core.delivered_of(self.core.seat().me()) == Some(self.core.stable())
     }
 
     /// A frame was refused: counts it. A want of memory hinders a turn, all else is dropped.

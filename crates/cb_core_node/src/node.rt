@@ -105,7 +105,9 @@ impl<I, O, K> CoreNode<I, O, K> {
     }
 
     /// How many ticks were made.
-    pub fn ticks(&self) -> u64 {
+    pub fn ticks(&self) -> u64
+        ensures { result ≡ self.now.pacing.ticks }
+    {
         self.pacing.ticks
     }
 }

@@ -1,4 +1,5 @@
 pub mod Growing
+pub mod Keeping
 pub mod Desks
 pub mod Courses
 pub mod Turns

@@ -12,6 +12,7 @@ use Rattle.cb_node.specs.Course.{Goes, Stays, Work}
 use Rattle.cb_node.specs.Kept.{IsKeptState, KeepsUp, KeptState, work_of}
 use Rattle.cb_node.specs.Turning.{CountsOn, HasGone, HasTurned, between}
 use Rattle.cb_node.proofs.Courses.{and_then, course_grows, goes_on_top, on_top}
+use Rattle.cb_node.proofs.Keeping.{keeps_same, keeps_then}
 
 -- calls of which nothing was sent yet
 pub by_course : (old new : KeptState) (count : ℕ) → Goes (work_of old) (work_of new) → HasGone old new count count
@@ -87,14 +88,15 @@ turned old new before after handed to gone nothing was is within rises all =
 -- ---- what the keeper has
 
 pub keep_on : {K : Type 0} (has : K → List EntryFields → Type 0) (k l m : K) (a b c : KeptState) → KeepsUp has k l a b → KeepsUp has l m b c → KeepsUp has k m a c
-keep_on has k l m a b c first second alive =
-    let now = second alive in
-    let before = first now.0 in
-    (before.0, λ h. now.1 (before.1 h))
+keep_on has k l m a b c first second =
+    keeps_then has k l m a.fault b.fault c.fault a.kept.entries b.kept.entries c.kept.entries first second
+
+-- nothing was done
+pub keep_still : {K : Type 0} (has : K → List EntryFields → Type 0) (k : K) (a b : KeptState) → b ≡ a → KeepsUp has k k a b
+keep_still has k a b same =
+    keeps_same has k k a.fault b.fault a.kept.entries b.kept.entries refl (ap (λ (s : KeptState). s.fault) same) (ap (λ (s : KeptState). s.kept.entries) same)
 
 -- nothing was kept, and all that waited was sent
 pub keep_same : {K : Type 0} (has : K → List EntryFields → Type 0) (k l : K) (a b : KeptState) → l ≡ k → b ≡ record a { post = [] } → KeepsUp has k l a b
-keep_same {K} has k l a b keeper same alive = (
-  ap (λ (s : KeptState). s.fault) (sym same) ∙ alive,
-  λ h. subst (λ (x : K). has x b.kept.entries) (sym keeper) (subst (λ (s : KeptState). has k s.kept.entries) (sym same) h),
-)
+keep_same has k l a b keeper same =
+    keeps_same has k l a.fault b.fault a.kept.entries b.kept.entries keeper (ap (λ (s : KeptState). s.fault) same) (ap (λ (s : KeptState). s.kept.entries) same)

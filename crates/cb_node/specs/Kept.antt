@@ -8,8 +8,9 @@ use Rattle.cb_history.specs.declared.answer.CastRefusal.TheVariants as casts
 use Rattle.cb_history.specs.declared.answer.Outgoing.{Outgoing}
 use Rattle.cb_history.specs.Facts.{EntryFields}
 use Rattle.cb_history.specs.Legal.{IsLegal}
-use Rattle.cb_history.specs.State.{HasCast, HasCastBurst, IsMemberState, MemberState, events_in}
+use Rattle.cb_history.specs.State.{HasCast, HasCastBurst, IsMemberState, MemberState, events_in, stable_in}
 use Rattle.cb_member.specs.Casting.{RefusesBurstExactly, RefusesExactly}
+use Rattle.cb_member.specs.Readings.{delivered_of_in}
 use Rattle.cb_node.specs.declared.fault.NodeBurstFault.{NodeBurstFault}
 use Rattle.cb_node.specs.declared.fault.NodeBurstFault.TheVariants as burstings
 use Rattle.cb_node.specs.declared.fault.NodeCastFault.{NodeCastFault}
@@ -18,6 +19,7 @@ use Rattle.cb_journal.specs.declared.keeper.KeepFault.{KeepFault}
 use Rattle.cb_node.specs.declared.named.Named.{Named}
 use Rattle.cb_node.specs.declared.refused.Refused.{Refused}
 use Rattle.cb_node.specs.Course.{Work, to_all}
+use Rattle.cb_node.specs.Keeping.{Keeps}
 
 -- The member, and as its kept entries say it is; what is to be sent; how many entries are kept, and how many events they made; how many
 -- frames were refused; and why an entry was not kept, where one was not.
@@ -46,9 +48,13 @@ pub record IsKeptState (s : KeptState) : Type 0 where
 abbrev pub all_kept : MemberState → Refused → KeptState
 all_kept m refused = record { member = m; kept = m; post = []; written = length m.entries; shown = length (events_in m); refused = refused; fault = None }
 
--- As long as nothing fails, and nothing had failed, what the keeper has goes on with what is kept.
+-- What the keeper has goes on with what is kept, up to where it fails.
 abbrev pub KeepsUp : {K : Type 0} → (K → List EntryFields → Type 0) → K → K → KeptState → KeptState → Type 0
-KeepsUp has before after old new = new.fault ≡ None → (old.fault ≡ None) × (has before old.kept.entries → has after new.kept.entries)
+KeepsUp has before after old new = Keeps has before after old.fault new.fault old.kept.entries new.kept.entries
+
+-- every other member is known to have delivered all own casts
+abbrev pub AreOwnStable : MemberState → Type 0
+AreOwnStable m = delivered_of_in m m.seat.me ≡ Some (stable_in m)
 
 -- ---- casts
 

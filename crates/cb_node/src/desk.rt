@@ -4,12 +4,13 @@
 //! is made before the call, so what it answers is posted whole.
 
 ghost use Rattle.std.specs.Prelude.{◌≡◌, ◌⊎◌, ◌≤◌, ◌<◌, ◌∷◌, ◌++◌, [], IfErr, IfOk, MatchResult, None, OnErr, OnOk, Some, length};
+ghost use Rattle.std.specs.Bool.{Decides};
 ghost use Rattle.std.specs.Vec.{vec_capacity, vec_len};
 ghost use Rattle.cb_frames.specs.Fields.{One};
 ghost use Rattle.cb_history.specs.Load.{many_of};
 ghost use Rattle.cb_node.specs.Course.{Goes, to_all};
 ghost use Rattle.cb_node.specs.Desk.{IsDesk, IsEntering, IsSameButPost, NotTakenBy, TakesIn, state_in};
-ghost use Rattle.cb_node.specs.Kept.{HasNamedBurst, HasNamedCast, KeepsUp, RefusesBurstAt, RefusesCastAt, all_kept, work_of};
+ghost use Rattle.cb_node.specs.Kept.{AreOwnStable, HasNamedBurst, HasNamedCast, KeepsUp, RefusesBurstAt, RefusesCastAt, all_kept, work_of};
 ghost use Rattle.cb_node.specs.Refusing.{none_refused};
 
 use crate::fault::{NodeBurstFault, NodeCastFault, TurnFault};
@@ -270,12 +271,10 @@ impl Desk {
     }
 
     /// Whether every other member is known to have delivered all own casts.
-    pub fn is_stable(&self) -> bool {
-        let me = self.member.seat().me() as usize;
-        match self.member.time().as_slice().get(me) {
-            Some(own) => *own == self.member.stable(),
-            None => false,
-        }
+    pub fn is_stable(&self) -> bool
+        ensures { Decides result (AreOwnStable self.now.member) }
+    {
+        self.member.delivered_of(self.member.seat().me()) == Some(self.member.stable())
     }
 
     /// Room for one list more that is to be sent, and a list with room for one frame.

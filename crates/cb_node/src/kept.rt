@@ -1,11 +1,12 @@
 //! A member whose entries are kept before anything is sent of them, with what is to be sent.
 
 ghost use Rattle.std.specs.Prelude.{◌≡◌, ◌≤◌, [], IfErr, IfOk, None, OnErr, map};
+ghost use Rattle.std.specs.Bool.{Decides};
 ghost use Rattle.cb_frames.specs.Fields.{One};
 ghost use Rattle.cb_history.specs.Load.{many_of};
 ghost use Rattle.cb_node.specs.Course.{Goes};
 ghost use Rattle.cb_node.specs.Desk.{IsSameButPost, frames_in};
-ghost use Rattle.cb_node.specs.Kept.{HasNamedBurst, HasNamedCast, IsKeptState, KeepsUp, RefusesBurstAt, RefusesCastAt, all_kept, work_of};
+ghost use Rattle.cb_node.specs.Kept.{AreOwnStable, HasNamedBurst, HasNamedCast, IsKeptState, KeepsUp, RefusesBurstAt, RefusesCastAt, all_kept, work_of};
 ghost use Rattle.cb_node.specs.Refusing.{none_refused};
 
 use crate::desk::Desk;
@@ -163,7 +164,9 @@ impl KeptMember {
     }
 
     /// Whether every other member is known to have delivered all own casts.
-    pub fn is_stable(&self) -> bool {
+    pub fn is_stable(&self) -> bool
+        ensures { Decides result (AreOwnStable self.now.member) }
+    {
         self.desk.is_stable()
     }
 }

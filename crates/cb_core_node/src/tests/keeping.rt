@@ -2,28 +2,58 @@
 
 use crate::node::CoreNode;
 use crate::tests::fakes::{SetClock, Short, Silent, Timed};
-use cb_links::{ChannelInlet, ChannelLink, ChannelOutlet, Inlet, Received};
+use cb_links::{ChannelInlet, ChannelLink, ChannelOutlet, Inlet, Outlet, Received, WaitingInlet};
 use cb_member::{CoreMember, Event, Group};
-use cb_node::{Bounds, KeepFault, TurnFault};
+use cb_node::{Bounds, KeepFault, TurnFault, for_all};
 use std::alloc::Global;
 use std::process::Abort;
 use std::sync::Wait;
 use std::time::{Clock, Duration};
 
-type ShortNode = CoreNode<Silent, ChannelOutlet, Short>;
+type ShortNode<I> = CoreNode<I, ChannelOutlet, Short>;
 
-/// Its keeper keeps so many entries. What it sends to member 0 is there to be received.
-fn short(rt: &impl Abort, alloc: Global, left: u64) -> (ShortNode, ChannelInlet) {
+/// One of two members.
+fn member(rt: &impl Abort, alloc: Global, me: u32) -> CoreMember {
     let group = Group::new(7, 2, 4).expect(rt, "a group");
-    let member = CoreMember::new(alloc, group, 1).expect(rt, "a member");
+    CoreMember::new(alloc, group, me).expect(rt, "a member")
+}
+
+/// Member 1, whose keeper keeps so many entries.
+fn keeping<I: WaitingInlet>(
+    rt: &impl Abort,
+    alloc: Global,
+    link: (I, ChannelOutlet),
+    left: u64,
+) -> ShortNode<I> {
     let bounds = Bounds::new(Duration::from_millis(10), Duration::from_secs(1)).expect(
         rt, "bounds",
     );
+    CoreNode::new(alloc, member(rt, alloc, 1), link, bounds, Short { left })
+}
+
+/// Nothing comes to it. What it sends to member 0 is there to be received.
+fn short(rt: &impl Abort, alloc: Global, left: u64) -> (ShortNode<Silent>, ChannelInlet) {
     let mut links = ChannelLink::group(alloc, 2).expect(rt, "memory");
     let outlet = links.pop().expect(rt, "a link").1;
     let inlet = links.pop().expect(rt, "a link").0;
-    let node = CoreNode::new(alloc, member, (Silent, outlet), bounds, Short { left });
-    (node, inlet)
+    (keeping(rt, alloc, (Silent, outlet), left), inlet)
+}
+
+/// A cast of member 0 has come to it.
+fn spoken_to<R: Wait + Abort>(
+    rt: &R,
+    alloc: Global,
+    left: u64,
+) -> (ShortNode<ChannelInlet>, ChannelInlet) {
+    let mut links = ChannelLink::group(alloc, 2).expect(rt, "memory");
+    let link = links.pop().expect(rt, "a link");
+    let (inlet, mut outlet) = links.pop().expect(rt, "a link");
+    let mut speaker = member(rt, alloc, 0);
+    let cast = speaker.cast(b"one").expect(rt, "a cast");
+    outlet.send(rt, &for_all(cast.out)).expect(rt, "memory");
+    drop(speaker);
+    drop(outlet);
+    (keeping(rt, alloc, link, left), inlet)
 }
 
 /// How many frames are there.
@@ -63,6 +93,37 @@ fn what_is_not_kept_is_neither_sent_nor_shown(rt: HostRuntime) {
     assert!(&rt; turned == Err(TurnFault::NotKept(KeepFault::Device)) && again == turned);
     assert!(&rt; shown == 1 && sent == 1 && counted == 1);
     assert!(&rt; none_again);
+}
+
+/// Of a frame that comes the entry is not kept, and the next turn does nothing more.
+#[test]
+fn what_comes_and_is_not_kept_is_neither_sent_nor_shown(rt: HostRuntime) {
+    let (mut node, mut inlet) = spoken_to(&rt, rt.alloc(), 0);
+    let turned = node.turn(&rt, Duration::ZERO);
+    let shown = node.news().len();
+    let again = node.turn(&rt, Duration::ZERO);
+    let shown_again = node.news().len();
+    let sent = frames(&rt, &mut inlet);
+    let counted = node.counts().offered;
+    drop(node);
+    drop(inlet);
+    assert!(&rt; turned == Err(TurnFault::NotKept(KeepFault::Device)) && again == turned);
+    assert!(&rt; shown == 0 && shown_again == 0);
+    assert!(&rt; sent == 0 && counted == 0);
+}
+
+/// The entry of the frame is kept, and that of the first status is not.
+#[test]
+fn a_status_that_is_not_kept_is_not_sent(rt: HostRuntime) {
+    let (mut node, mut inlet) = spoken_to(&rt, rt.alloc(), 1);
+    let turned = node.turn(&rt, Duration::ZERO);
+    let shown = node.news().len();
+    let sent = frames(&rt, &mut inlet);
+    let counted = node.counts().offered;
+    drop(node);
+    drop(inlet);
+    assert!(&rt; turned == Err(TurnFault::NotKept(KeepFault::Device)));
+    assert!(&rt; shown == 1 && sent == 0 && counted == 0);
 }
 
 /// A burst is one entry.

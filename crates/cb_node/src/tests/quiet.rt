@@ -1,11 +1,12 @@
 //! How often a node ticks, by a clock that is set.
 
+use crate::desk::for_all;
 use crate::fault::TurnFault;
 use crate::node::Node;
 use crate::pace::{BadBounds, Bounds};
 use crate::tests::fakes::{Broken, SetClock, Short, Silent, Timed};
 use cb_journal::{KeepFault, NoJournal};
-use cb_links::{ChannelLink, ChannelOutlet, WaitingInlet};
+use cb_links::{ChannelInlet, ChannelLink, ChannelOutlet, Inlet, Outlet, Received, WaitingInlet};
 use cb_member::{Group, Member};
 use std::alloc::Global;
 use std::process::Abort;
@@ -17,8 +18,12 @@ fn bounds(rt: &impl Abort) -> Bounds {
 }
 
 fn member(rt: &impl Abort, alloc: Global) -> Member {
+    member_at(rt, alloc, 0)
+}
+
+fn member_at(rt: &impl Abort, alloc: Global, me: u32) -> Member {
     let group = Group::new(7, 3, 4).expect(rt, "a group");
-    Member::new(alloc, group, 0, 100).expect(rt, "a member")
+    Member::new(alloc, group, me, 100).expect(rt, "a member")
 }
 
 /// Its frames go nowhere: the others' inlets are gone.
@@ -124,4 +129,64 @@ fn what_is_not_kept_is_neither_sent_nor_shown(rt: HostRuntime) {
     let again = node.turn(&rt, Duration::ZERO);
     assert!(&rt; again == Err(TurnFault::NotKept(KeepFault::Device)));
     assert!(&rt; node.news().is_empty());
+}
+
+/// A node with a keeper of so many entries, to which a cast of member 2 has come, and that one's
+/// inlet.
+fn spoken_to<R: Wait + Abort>(
+    rt: &R,
+    alloc: Global,
+    left: u64,
+) -> (Node<ChannelInlet, ChannelOutlet, Short>, ChannelInlet) {
+    let mut links = ChannelLink::group(alloc, 3).expect(rt, "memory");
+    let (inlet, mut outlet) = links.pop().expect(rt, "a link");
+    let _third = links.pop();
+    let link = links.pop().expect(rt, "a link");
+    let cast = member_at(rt, alloc, 2).cast(b"one").expect(rt, "a cast");
+    outlet.send(rt, &for_all(cast.out)).expect(rt, "memory");
+    let node = Node::new(alloc, member(rt, alloc), link, bounds(rt), Short { left });
+    (node, inlet)
+}
+
+/// How many frames are there.
+fn frames<R: Wait + Clock>(rt: &R, inlet: &mut ChannelInlet) -> u32 {
+    let mut count = 0u32;
+    for _frame in 0..100u32 {
+        match inlet.receive(rt) {
+            Ok(Received::Frame(_)) => count = count.saturating_add(1),
+            _ => return count,
+        }
+    }
+    count
+}
+
+/// Of a frame that comes the entry is not kept, and the next turn does nothing more.
+#[test]
+fn what_comes_and_is_not_kept_is_neither_sent_nor_shown(rt: HostRuntime) {
+    let (mut node, mut inlet) = spoken_to(&rt, rt.alloc(), 0);
+    let turned = node.turn(&rt, Duration::ZERO);
+    let shown = node.news().len();
+    let again = node.turn(&rt, Duration::ZERO);
+    let shown_again = node.news().len();
+    let sent = frames(&rt, &mut inlet);
+    let counted = node.counts().offered;
+    drop(node);
+    drop(inlet);
+    assert!(&rt; turned == Err(TurnFault::NotKept(KeepFault::Device)) && again == turned);
+    assert!(&rt; shown == 0 && shown_again == 0);
+    assert!(&rt; sent == 0 && counted == 0);
+}
+
+/// The entry of the frame is kept, and that of the first status is not.
+#[test]
+fn a_status_that_is_not_kept_is_not_sent(rt: HostRuntime) {
+    let (mut node, mut inlet) = spoken_to(&rt, rt.alloc(), 1);
+    let turned = node.turn(&rt, Duration::ZERO);
+    let shown = node.news().len();
+    let sent = frames(&rt, &mut inlet);
+    let counted = node.counts().offered;
+    drop(node);
+    drop(inlet);
+    assert!(&rt; turned == Err(TurnFault::NotKept(KeepFault::Device)));
+    assert!(&rt; shown == 1 && sent == 0 && counted == 0);
 }

@@ -5,7 +5,16 @@ use Rattle.cb_node.specs.Course.{to_all}
 use Rattle.cb_node.specs.Desk.{state_in}
 use Rattle.cb_node.specs.Kept.{KeptState}
 use Rattle.cb_node.proofs.Courses.{named_cast}
+use Rattle.cb_node.proofs.Desks.{same_desk}
+use Rattle.cb_node.proofs.Turns.{keep_still}
 use Rattle.cb_node.proofs.desk.Desk.cast.Goals as goal
+
+pub returns-in_default-room_to_post-clause-keeps : goal.returns-in_default-room_to_post-clause-keeps
+returns-in_default-room_to_post-clause-keeps g c = keep_still g.K.Keeper.has _ _ _ c.room_to_post.ensures.same
+
+pub returns-in_err-done-clause-keeps : goal.returns-in_err-done-clause-keeps
+returns-in_err-done-clause-keeps g c =
+    keep_still g.K.Keeper.has _ _ _ (same_desk c.room_to_post.new.self c.cast_noted.new.self c.room_to_post.new.self.post c.in_err-done.ensures.same refl ∙ c.room_to_post.ensures.same)
 
 pub returns-clause-done : goal.returns-clause-done
 returns-clause-done g c =

@@ -5,6 +5,7 @@ use Rattle.cb_node.specs.Course.{Stays}
 use Rattle.cb_node.specs.Desk.{frames_in, state_in}
 use Rattle.cb_node.proofs.Courses.{goes_by_tick, goes_nowhere, goes_on_same}
 use Rattle.cb_node.proofs.Desks.{call_enters, same_desk, unentered}
+use Rattle.cb_node.proofs.Turns.{keep_still}
 use Rattle.cb_node.proofs.desk.Desk.tick.Goals as goal
 
 pub returns-in-Some-clause-goes : goal.returns-in-Some-clause-goes
@@ -29,3 +30,9 @@ returns-in-Err-HistoryFull-clause-goes g c = goes_on_same _ _ (same_desk c.args.
 
 pub returns-in-Err-NoMemory-clause-goes : goal.returns-in-Err-NoMemory-clause-goes
 returns-in-Err-NoMemory-clause-goes g c = goes_on_same _ _ (same_desk c.args.self.now c.tick_noted.new.self c.make_room.new.list c.in-Err-NoMemory.ensures.same c.make_room.ensures.items)
+
+pub returns-in-Err-HistoryFull-clause-keeps : goal.returns-in-Err-HistoryFull-clause-keeps
+returns-in-Err-HistoryFull-clause-keeps g c = keep_still g.K.Keeper.has _ _ _ (same_desk c.args.self.now c.tick_noted.new.self c.make_room.new.list c.in-Err-HistoryFull.ensures.same c.make_room.ensures.items)
+
+pub returns-in-Err-NoMemory-clause-keeps : goal.returns-in-Err-NoMemory-clause-keeps
+returns-in-Err-NoMemory-clause-keeps g c = keep_still g.K.Keeper.has _ _ _ (same_desk c.args.self.now c.tick_noted.new.self c.make_room.new.list c.in-Err-NoMemory.ensures.same c.make_room.ensures.items)

@@ -1,9 +1,10 @@
 use Rattle.std.proofs.Common.{refl, ◌∙◌, arith}
+use Rattle.cb_node.proofs.Keeping.{keeps_nothing}
 use Rattle.cb_node.proofs.Turns.{go_on, keep_on, nothing_gone}
 use Rattle.cb_node.proofs.node.Node.listen.Goals as goal
 
 pub loop-frame-init : goal.loop-frame-init
-loop-frame-init g c = (nothing_gone _ _, λ alive. (alive, λ h. h), omega arith, refl)
+loop-frame-init g c = (nothing_gone _ _, keeps_nothing g.K.Keeper.has _ _ _, omega arith, refl)
 
 pub returns-in_default-clause-gone : goal.returns-in_default-clause-gone
 returns-in_default-clause-gone g c = go_on _ _ _ _ _ _ c.loop-frame.invariant.0 c.hear.ensures.gone
