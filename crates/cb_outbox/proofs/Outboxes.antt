@@ -9,7 +9,9 @@ use Rattle.cb_history.specs.declared.history.Entry.{Entry}
 use Rattle.cb_history.specs.Facts.{EntryFields, entry_fields}
 use Rattle.cb_outbox.specs.declared.waiting.Waiting.{Waiting}
 use Rattle.cb_outbox.specs.Outbox.{OutboxState, Follows, WaitOn, events_by, held, with_early, with_gaps}
-use Rattle.cb_outbox.specs.Calls.{Enters, Keeps, Sends}
+use Rattle.cb_outbox.specs.Calls.{Enters, Keeps, Sends, StaysAt}
+use Rattle.cb_outbox.specs.declared.refusal.EnterRefusal.{EnterRefusal}
+use Rattle.cb_outbox.specs.declared.refusal.EnterRefusal.TheVariants as entering
 
 -- ---- places
 
@@ -64,6 +66,23 @@ entered {K} has history old new place entry at f e =
       within = f.within;
       early = early_entered history old.kept place old.early entry e.behind at f.early;
       kept = f.kept;
+      shown = f.shown;
+    })
+
+-- an entry that was refused has changed nothing, but that out of memory there may be gaps behind those to come
+pub stayed : {K : Type 0} (has : K → List EntryFields → Type 0) (history : List EntryFields) (old new : OutboxState K) (refusal : EnterRefusal)
+    → Follows has history old → StaysAt old new refusal → Follows has history new
+stayed {K} has history old new (entering.NotKept fault) f same = subst (λ (s : OutboxState K). Follows has history s) (sym same) f
+stayed {K} has history old new entering.PlaceKept f same = subst (λ (s : OutboxState K). Follows has history s) (sym same) f
+stayed {K} has history old new entering.PlaceTooFar f same = subst (λ (s : OutboxState K). Follows has history s) (sym same) f
+stayed {K} has history old new entering.PlaceTaken f same = subst (λ (s : OutboxState K). Follows has history s) (sym same) f
+stayed {K} has history old new entering.NoMemory f lost =
+    let gaps = lost.0 in
+    subst (λ (s : OutboxState K). Follows has history s) (sym lost.1) (record {
+      within = f.within;
+      early = λ i e there.
+          f.early i e (in_gaps old.early (gaps.0 - length old.early) i e (subst (λ (slots : List (Option Entry)). slice_get slots i ≡ Some (Some e)) gaps.1 there));
+      kept = λ alive. absurd cc;
       shown = f.shown;
     })
 

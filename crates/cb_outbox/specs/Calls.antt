@@ -9,7 +9,7 @@ use Rattle.cb_outbox.specs.declared.refusal.EnterRefusal.{EnterRefusal}
 use Rattle.cb_outbox.specs.declared.refusal.EnterRefusal.TheVariants as entering
 use Rattle.cb_outbox.specs.declared.refusal.PostRefusal.{PostRefusal}
 use Rattle.cb_outbox.specs.declared.refusal.PostRefusal.TheVariants as posting
-use Rattle.cb_outbox.specs.Outbox.{OutboxState, IsThere, WaitOn, Releases, events_by, held, with_early}
+use Rattle.cb_outbox.specs.Outbox.{OutboxState, IsThere, OnlyGaps, WaitOn, Releases, events_by, held, with_early}
 
 -- ---- an entry is posted
 
@@ -21,28 +21,31 @@ pub record Enters {K : Type 0} (old new : OutboxState K) (place : ℕ) (entry : 
   pub free : IsThere old.early (place - suc old.kept) → ⊥
   pub put : new ≡ record old { early = with_early old.early (place - suc old.kept) entry }
 
--- it is refused
+-- it is refused by the first name that fits; for want of memory, where no other fits
 abbrev pub RefusesEntry : {K : Type 0} → OutboxState K → ℕ → EnterRefusal → Type 0
 RefusesEntry old place (entering.NotKept fault) = old.fault ≡ Some fault
-RefusesEntry old place entering.PlaceKept = place ≤ old.kept
-RefusesEntry old place entering.PlaceTooFar = longest_history < place
-RefusesEntry old place entering.PlaceTaken = IsThere old.early (place - suc old.kept)
-RefusesEntry old place entering.NoMemory = Unit {0}
+RefusesEntry old place entering.PlaceKept = (old.fault ≡ None) × (place ≤ old.kept)
+RefusesEntry old place entering.PlaceTooFar = (old.fault ≡ None) × (old.kept < place) × (longest_history < place)
+RefusesEntry old place entering.PlaceTaken =
+    (old.fault ≡ None) × (old.kept < place) × (place ≤ longest_history) × IsThere old.early (place - suc old.kept)
+RefusesEntry old place entering.NoMemory =
+    (old.fault ≡ None) × (old.kept < place) × (place ≤ longest_history) × (IsThere old.early (place - suc old.kept) → ⊥)
 
--- Nothing has changed. Out of memory an entry is lost, and so nothing more is kept.
+-- Nothing has changed. Out of memory an entry is lost, with gaps at most in its place, and so nothing more is kept.
 abbrev pub StaysAt : {K : Type 0} → OutboxState K → OutboxState K → EnterRefusal → Type 0
 StaysAt old new (entering.NotKept fault) = new ≡ old
 StaysAt old new entering.PlaceKept = new ≡ old
 StaysAt old new entering.PlaceTooFar = new ≡ old
 StaysAt old new entering.PlaceTaken = new ≡ old
-StaysAt old new entering.NoMemory = new ≡ record old { early = new.early; fault = Some keeping.NoMemory }
+StaysAt old new entering.NoMemory =
+    OnlyGaps old.early new.early × (new ≡ record old { early = new.early; fault = Some keeping.NoMemory })
 
 -- ---- a frame is posted
 
 -- a frame is refused
 abbrev pub RefusesFrame : {K : Type 0} → OutboxState K → PostRefusal → Type 0
 RefusesFrame old (posting.NotKept fault) = old.fault ≡ Some fault
-RefusesFrame old posting.NoMemory = Unit {0}
+RefusesFrame old posting.NoMemory = old.fault ≡ None
 
 -- ---- the next entry is kept
 

@@ -36,6 +36,10 @@ IsThere slots index = (entry : Entry) × (slice_get slots index ≡ Some (Some e
 abbrev pub with_gaps : List (Option Entry) → ℕ → List (Option Entry)
 with_gaps slots count = slots ++ replicate (count - length slots) None
 
+-- gaps behind them, and nothing else
+abbrev pub OnlyGaps : List (Option Entry) → List (Option Entry) → Type 0
+OnlyGaps old new = (count : ℕ) × (new ≡ with_gaps old count)
+
 -- with this entry
 abbrev pub with_early : List (Option Entry) → ℕ → Entry → List (Option Entry)
 with_early slots index entry = set (with_gaps slots (suc index)) index (Some entry)

@@ -1,8 +1,8 @@
 //! Entries that came before those in front of them.
 
-ghost use Rattle.std.specs.Prelude.{◌≡◌, ◌<◌, [], Decides, MatchOption, OnOk, Some, drop, slice_get};
+ghost use Rattle.std.specs.Prelude.{◌≡◌, ◌<◌, [], Decides, MatchOption, OnErr, OnOk, Some, drop, slice_get};
 ghost use Rattle.cb_history.specs.Facts.{entry_fields};
-ghost use Rattle.cb_outbox.specs.Outbox.{IsThere, events_by, with_early, with_gaps};
+ghost use Rattle.cb_outbox.specs.Outbox.{IsThere, OnlyGaps, events_by, with_early, with_gaps};
 
 use cb_frames::message_count;
 use cb_history::Entry;
@@ -53,8 +53,9 @@ impl Early {
     /// Puts an entry to its index. Out of memory it is lost.
     pub fn put(&mut self, index: usize, entry: Entry) -> Result<(), NoMemory>
         requires { index < 16_777_216 }
-        ensures { OnOk result (self.new.slots.items
+        ensures put { OnOk result (self.new.slots.items
             ≡ with_early self.old.slots.items index entry) }
+        ensures lost { OnErr result (OnlyGaps self.old.slots.items self.new.slots.items) }
     {
         self.make_gaps(index + 1)?;
         self.slots[index] = Some(entry);
@@ -64,8 +65,9 @@ impl Early {
     /// Gaps where nothing is yet, so that there are so many places at least.
     #[tactic(auto, using(crate::proofs::Outboxes::gaps_begin, crate::proofs::Outboxes::gaps_more, crate::proofs::Outboxes::gaps_none))]
     fn make_gaps(&mut self, count: usize) -> Result<(), NoMemory>
-        ensures { OnOk result (self.new.slots.items
+        ensures made { OnOk result (self.new.slots.items
             ≡ with_gaps self.old.slots.items count) }
+        ensures some { OnErr result (OnlyGaps self.old.slots.items self.new.slots.items) }
     {
         let len = self.slots.len();
         if count <= len {

@@ -1,8 +1,8 @@
 //! Entries and frames that threads post, and what of them is kept and sent.
 
-ghost use Rattle.std.specs.Prelude.{◌≡◌, ℕ, ◌∷◌, ◌++◌, [], ◌-◌, IfErr, IfOk, List, MatchBool, MatchOption, OnErr, OnOk, Some, slice_get};
+ghost use Rattle.std.specs.Prelude.{◌≡◌, ℕ, ◌∷◌, ◌++◌, [], ◌-◌, Err, IfErr, IfOk, IfSome, List, MatchBool, MatchOption, None, OnErr, OnOk, Some, slice_get};
 ghost use Rattle.cb_history.specs.Facts.{EntryFields, entry_fields};
-ghost use Rattle.cb_outbox.specs.Outbox.{Follows, begun};
+ghost use Rattle.cb_outbox.specs.Outbox.{Follows, IsThere, begun};
 ghost use Rattle.cb_outbox.specs.Calls.{Enters, Holds, Keeps, RefusesEntry, RefusesFrame, Sends, StaysAt, Waits};
 
 use crate::early::{Early, events_by};
@@ -71,14 +71,14 @@ impl<K: Keeper> Outbox<K> {
     }
 
     /// Takes the entry of this place, from 1: the next one to be kept, or one behind it.
-    #[tactic(auto, using(crate::proofs::Outboxes::entered))]
+    #[tactic(auto, using(crate::proofs::Outboxes::entered, crate::proofs::Outboxes::stayed))]
     pub fn enter(&mut self, place: usize, entry: Entry) -> Result<(), EnterRefusal>
         ensures entered { OnOk result (Enters self.old self.new place entry) }
         ensures refused { IfErr result (RefusesEntry self.old place) }
         ensures same { IfErr result (StaysAt self.old self.new) }
         ensures follows { (history : List EntryFields) → slice_get history (place - 1)
             ≡ Some (entry_fields entry) → Follows K.has history self.old
-            → OnOk result (Follows K.has history self.new) }
+            → Follows K.has history self.new }
     {
         if let Some(fault) = self.fault {
             return Err(EnterRefusal::NotKept(fault));
@@ -131,6 +131,9 @@ impl<K: Keeper> Outbox<K> {
           keeper = self.new.keeper;
           fault = Some fault;
         }) }
+        ensures came { OnErr result (self.old.fault ≡ None → IsThere self.old.early 0) }
+        ensures again { IfSome self.old.fault (λ fault. (result ≡ Err fault)
+            × (self.new ≡ self.old)) }
         ensures follows { (history : List EntryFields) → Follows K.has history self.old
             → Follows K.has history self.new }
     {

@@ -28,11 +28,32 @@ fn a_bad_place_is_refused_by_name(rt: HostRuntime) {
     drop(outbox);
 }
 
+/// Behind a fault it is the fault, whatever the place: one that is kept, one that is taken or too far, and one that is free.
+#[test]
+fn behind_a_fault_each_place_is_refused_by_the_fault(rt: HostRuntime) {
+    let mut outbox = outbox(rt.alloc(), 2);
+    for place in 1..=3u8 {
+        drop(outbox.enter(usize::from(place), entry(&rt, rt.alloc(), place)));
+    }
+    keep_all(&mut outbox);
+    let device = KeepFault::Device;
+    for place in [0, 1, 3, 4, LONGEST_HISTORY + 1] {
+        let found = outbox.enter(place, entry(&rt, rt.alloc(), 4));
+        assert_eq!(&rt; found, Err(EnterRefusal::NotKept(device)));
+    }
+    let posted = outbox.post(1, frame(&rt, rt.alloc(), 1));
+    let again = outbox.keep_next();
+    drop(outbox);
+    assert_eq!(&rt; posted, Err(PostRefusal::NotKept(device)));
+    assert_eq!(&rt; again, Err(device));
+}
+
 #[test]
 fn a_frame_without_an_entry_waits_too(rt: HostRuntime) {
     let mut outbox = outbox(rt.alloc(), 0);
     drop(outbox.enter(2, entry(&rt, rt.alloc(), 2)));
     drop(outbox.post(2, frame(&rt, rt.alloc(), 7)));
+    drop(outbox.post(1, frame(&rt, rt.alloc(), 9)));
     drop(outbox.post(0, frame(&rt, rt.alloc(), 8)));
     keep_all(&mut outbox);
     let before = released(&rt, rt.alloc(), &mut outbox);
@@ -42,7 +63,7 @@ fn a_frame_without_an_entry_waits_too(rt: HostRuntime) {
     drop(outbox);
     assert_eq!(&rt;
         (before.as_slice(), behind.as_slice()),
-        ([8].as_slice(), [7].as_slice())
+        ([8].as_slice(), [7, 9].as_slice())
     );
 }
 

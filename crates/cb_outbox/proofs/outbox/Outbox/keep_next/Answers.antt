@@ -13,3 +13,6 @@ returns-clause-kept g c = record {
 
 pub returns-clause-follows : goal.returns-clause-follows
 returns-clause-follows g c history follows = kept_more g.K.Keeper.has history _ _ follows (returns-clause-kept g c)
+
+pub returns-in-Err-clause-came : goal.returns-in-Err-clause-came
+returns-in-Err-clause-came g c alive = (c.in-Some-next.entry.now, search (rules, tests))
