@@ -1,1 +1,5 @@
 pub mod Reports
+pub mod Talking
+pub mod Writing
+pub mod Posts
+pub mod Settling

@@ -115,7 +115,8 @@ fn run_at<
     let (ended, written) = run_crew(rt, crew, writer, &outbox, board);
     let (report, seats) = reported(ended, written, outbox.into_inner(), list);
     let mut report = report;
-    settle(rt, &mut report.outbox, &seats);
+    // An entry for which there was no memory leaves a gap.
+    let _are_all = settle(rt, &mut report.outbox, &seats);
     (report, seats)
 }
 

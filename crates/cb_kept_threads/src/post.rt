@@ -1,6 +1,8 @@
 //! What the workers hand to the writer.
 
-ghost use Rattle.std.specs.Prelude.{◌≡◌, ◌<◌};
+ghost use Rattle.std.specs.Prelude.{◌≡◌, ◌+◌, ◌<◌, ◌≤◌, map};
+ghost use Rattle.cb_lock.specs.Receipts.{receipt_fields};
+ghost use Rattle.cb_kept_threads.specs.Posts.{kept_among};
 
 use cb_links::Slot;
 use cb_lock::{Receipt, Seat};
@@ -26,7 +28,10 @@ pub struct Post {
 
 impl Post {
     /// Of a seat of which the receipts up to this place are kept.
-    pub fn new<L: Ledger>(slot: Slot<Posted>, seat: &Seat<L>, kept: usize) -> Post {
+    pub fn new<L: Ledger>(slot: Slot<Posted>, seat: &Seat<L>, kept: usize) -> Post
+        ensures receipts { result.receipts ≡ kept_among kept seat.now.receipts }
+        ensures lost { result.lost ≡ 0 }
+    {
         Post {
             slot,
             receipts: count_kept(seat.receipts(), kept),
@@ -69,11 +74,23 @@ impl Post {
     }
 
     /// Posts frames that may be sent once all entries up to this place are kept.
-    pub fn put_frames(&mut self, rt: &impl Wait, place: usize, out: Vec<Outgoing>) {
+    pub fn put_frames(&mut self, rt: &impl Wait, place: usize, out: Vec<Outgoing>)
+        ensures receipts { self.new.receipts ≡ self.old.receipts }
+        ensures lost { self.old.lost ≤ self.new.lost }
+    {
         for frame in out {
-            if self.slot.add(rt, Posted::Frame { place, frame }).is_err() {
-                self.lost = self.lost.saturating_add(1);
-            }
+            self.put_frame(rt, place, frame);
+        }
+    }
+
+    /// So of one frame. Where memory is refused it is lost, as on the way.
+    pub fn put_frame(&mut self, rt: &impl Wait, place: usize, frame: Outgoing)
+        ensures receipts { self.new.receipts ≡ self.old.receipts }
+        ensures lost { self.old.lost ≤ self.new.lost }
+        ensures one { self.new.lost ≤ self.old.lost + 1 }
+    {
+        if self.slot.add(rt, Posted::Frame { place, frame }).is_err() {
+            self.lost = self.lost.saturating_add(1);
         }
     }
 
@@ -84,7 +101,9 @@ impl Post {
 }
 
 /// How many of the first of these receipts have places up to this one.
-fn count_kept(receipts: &[Receipt], kept: usize) -> usize {
+fn count_kept(receipts: &[Receipt], kept: usize) -> usize
+    ensures { result ≡ kept_among kept (map receipt_fields receipts.now) }
+{
     receipts
         .iter()
         .position(|receipt| receipt.place > kept)

@@ -2,6 +2,7 @@
 
 ghost use Rattle.std.specs.Prelude.{◌≡◌, ◌≤◌, ◌<◌, ◌+◌, None, if◌then◌else◌, is_some, true};
 ghost use Rattle.std.specs.Vec.{vec_capacity, vec_len};
+ghost use Rattle.cb_links.specs.Counts.{held};
 ghost use Rattle.cb_threads.specs.Reports.{count_in};
 ghost use Rattle.cb_kept_threads.specs.Reports.{HandsBack};
 
@@ -22,7 +23,7 @@ pub struct KeptReport<I, O, P, T, K> {
     /// The arrivals that the member refused, also where it was out of memory.
     pub refused: u64,
     /// The frames for which memory was refused, that the link did not take, or that were posted
-    /// behind a fault of the keeper.
+    /// behind a fault of the keeper. Those that still wait in the outbox are not among them.
     pub lost: u64,
     /// How often the inlet answered `Device`.
     pub receive_failures: u64,
@@ -58,6 +59,12 @@ pub fn reported<I, O, P, T, K, L: Ledger>(
     ensures seats { result.0.fault ≡ None → vec_len result.1 ≡ vec_len list + 3 }
     ensures parts { HandsBack result.0 }
     ensures refused { result.0.refused ≡ count_in ended.receiver (λ w. w.refused) }
+    ensures lost { result.0.lost ≡ held (count_in ended.receiver (λ w. w.lost)
+        + count_in ended.timer (λ w. w.lost) + count_in ended.speaker (λ w. w.lost)
+        + count_in written (λ w. w.lost)) }
+    ensures inlet { result.0.receive_failures ≡ count_in ended.receiver (λ w. w.failures) }
+    ensures outlet { result.0.send_failures ≡ count_in written (λ w. w.failures) }
+    ensures pace { result.0.pace_failures ≡ count_in ended.timer (λ w. w.failures) }
 {
     let fault = fault_of(&ended, written.is_some());
     let mut seats = list;
@@ -65,11 +72,7 @@ pub fn reported<I, O, P, T, K, L: Ledger>(
     let (ticking, ticked) = parted(ended.timer, &mut seats);
     let (talking, talked) = parted(ended.speaker, &mut seats);
     let (outlet, sent) = outlet_of(written);
-    let lost = received
-        .lost
-        .saturating_add(ticked.lost)
-        .saturating_add(talked.lost)
-        .saturating_add(sent.lost);
+    let lost = all_lost(received.lost, ticked.lost, talked.lost, sent.lost);
     let report = KeptReport {
         outbox,
         refused: received.refused,
@@ -86,6 +89,16 @@ pub fn reported<I, O, P, T, K, L: Ledger>(
     (report, seats)
 }
 
+/// The frames that were lost by all of the workers.
+fn all_lost(receiver: u64, timer: u64, speaker: u64, writer: u64) -> u64
+    ensures { result ≡ held (receiver + timer + speaker + writer) }
+{
+    receiver
+        .saturating_add(timer)
+        .saturating_add(speaker)
+        .saturating_add(writer)
+}
+
 /// What is left of a worker: what it worked with, and what it counted. Its seat joins the others.
 fn parted<W, L: Ledger>(
     worked: Option<Worked<W, L>>,
@@ -94,6 +107,8 @@ fn parted<W, L: Ledger>(
     requires { vec_len seats.old < vec_capacity seats.old }
     ensures part { is_some result.0 ≡ is_some worked }
     ensures refused { result.1.refused ≡ count_in worked (λ w. w.refused) }
+    ensures lost { result.1.lost ≡ count_in worked (λ w. w.lost) }
+    ensures failures { result.1.failures ≡ count_in worked (λ w. w.failures) }
     ensures seat { vec_len seats.new ≡ (if is_some worked then vec_len seats.old + 1
         else vec_len seats.old) }
     ensures room { vec_capacity seats.new ≡ vec_capacity seats.old }
@@ -121,7 +136,9 @@ fn parted<W, L: Ledger>(
 
 /// What is left of the writer.
 fn outlet_of<O>(written: Option<Writing<O>>) -> (Option<O>, Counted)
-    ensures { is_some result.0 ≡ is_some written }
+    ensures part { is_some result.0 ≡ is_some written }
+    ensures lost { result.1.lost ≡ count_in written (λ w. w.lost) }
+    ensures failures { result.1.failures ≡ count_in written (λ w. w.failures) }
 {
     match written {
         Some(written) => {
@@ -138,7 +155,7 @@ fn outlet_of<O>(written: Option<Writing<O>>) -> (Option<O>, Counted)
 }
 
 fn nothing() -> Counted
-    ensures { result.refused ≡ 0 }
+    ensures { (result.lost ≡ 0) × (result.failures ≡ 0) × (result.refused ≡ 0) }
 {
     Counted {
         lost: 0,

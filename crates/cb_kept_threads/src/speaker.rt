@@ -2,14 +2,14 @@
 
 ghost use Rattle.std.specs.Prelude.{◌≡◌, drop, min, take};
 ghost use Rattle.cb_history.specs.State.{events_in};
+ghost use Rattle.cb_threads.specs.Talking.{left_by};
+ghost use Rattle.cb_kept_threads.specs.Talking.{turn_by};
 
 use crate::station::Station;
 use crate::turns::{Role, Turn};
-use bytes::Bytes;
 use cb_lock::{Payloads, Tried};
-use cb_member::{BurstRefusal, CastRefusal, Event, Member, NoMemory, Outgoing};
-use cb_threads::{Talk, Talker};
-use std::alloc::Global;
+use cb_member::{Event, Member, NoMemory};
+use cb_threads::{Talk, Talker, outcome};
 use std::sync::Wait;
 use std::sync::ledger::Ledger;
 use std::time::Clock;
@@ -26,7 +26,9 @@ pub struct Talking<T> {
 }
 
 impl<T> Talking<T> {
-    pub fn new(talker: T) -> Talking<T> {
+    pub fn new(talker: T) -> Talking<T>
+        ensures { result.talker ≡ talker }
+    {
         Talking {
             talker,
             seen: 0,
@@ -93,8 +95,6 @@ impl<T: Talker> Talking<T> {
         }
     }
 
-    /// Casts. What the window, the history or memory has no room for waits; what never can be cast
-    /// is dropped.
     fn cast<L: Ledger, R: Wait>(
         &mut self,
         rt: &R,
@@ -102,9 +102,25 @@ impl<T: Talker> Talking<T> {
         payloads: Payloads,
     ) -> Turn {
         let before = station.seat.receipts().len();
-        match outcome(station.cast(rt, payloads)) {
+        let tried = station.cast(rt, payloads);
+        self.hand_on(rt, station, before, tried)
+    }
+
+    /// Hands on what was cast. What the window, the history or memory has no room for waits; what
+    /// never can be cast is dropped.
+    fn hand_on<L: Ledger, R: Wait>(
+        &mut self,
+        rt: &R,
+        station: &mut Station<'_, L>,
+        before: usize,
+        tried: Tried,
+    ) -> Turn
+        ensures waiting { self.new.waiting ≡ left_by self.old.waiting tried }
+        ensures turn { result ≡ turn_by tried }
+    {
+        match outcome(tried) {
             Ok(bytes) => {
-                station.hand_on(rt, before, to_all(station.board.alloc, bytes));
+                station.hand_on_cast(rt, before, bytes);
                 Turn::Done
             }
             Err(left) => {
@@ -113,13 +129,6 @@ impl<T: Talker> Talking<T> {
             }
         }
     }
-}
-
-/// The frame, for all others. Where memory is refused it is lost, as on the way.
-fn to_all(alloc: Global, bytes: Bytes) -> Vec<Outgoing> {
-    let mut out = Vec::new(alloc);
-    drop(out.push(Outgoing { to: None, bytes }));
-    out
 }
 
 /// What the talker says to these news.
@@ -138,24 +147,4 @@ fn news_in(member: &Member, seen: usize, shown: usize) -> &[Event]
     let (may_be_shown, _) = events.split_at(shown.min(events.len()));
     let (_, news) = may_be_shown.split_at(seen.min(may_be_shown.len()));
     news
-}
-
-/// The frame that was cast, or what is to be cast again.
-fn outcome(tried: Tried) -> Result<Bytes, Option<Payloads>> {
-    match tried {
-        Tried::One(payload, answer) => match answer {
-            Ok(done) => Ok(done.out),
-            Err(CastRefusal::PayloadTooLong) => Err(None),
-            Err(_passes) => Err(Some(Payloads::One(payload))),
-        },
-        Tried::Many(payloads, answer) => match answer {
-            Ok(done) => Ok(done.out),
-            Err(
-                BurstRefusal::EmptyBurst
-                | BurstRefusal::BurstTooLong
-                | BurstRefusal::PayloadTooLong,
-            ) => Err(None),
-            Err(_passes) => Err(Some(Payloads::Many(payloads))),
-        },
-    }
 }

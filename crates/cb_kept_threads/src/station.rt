@@ -7,8 +7,8 @@ use crate::board::Board;
 use crate::post::Post;
 use bytes::Bytes;
 use cb_lock::{Payloads, Seat, SharedMember, Tried};
-use cb_member::{ArriveRefusal, HelpFault, Member, Outgoing};
-use std::alloc::Global;
+use cb_member::{ArriveRefusal, Outgoing};
+use cb_threads::help_frames;
 use std::sync::Wait;
 use std::sync::ledger::Ledger;
 
@@ -45,11 +45,7 @@ impl<'a, L: Ledger> Station<'a, L> {
     /// Asks third members for what others do not send. Where memory is refused nobody is asked.
     pub fn help<R: Wait>(&mut self, rt: &R) {
         let before = self.seat.receipts().len();
-        let alloc = self.board.alloc;
-        let helps = self
-            .shared
-            .with_state(rt, &mut self.seat, move |member| helps_of(alloc, member));
-        if let Ok(helps) = helps {
+        if let Ok(helps) = help_frames(rt, self.board.alloc, self.shared, &mut self.seat) {
             self.hand_on(rt, before, helps);
         }
     }
@@ -70,6 +66,14 @@ impl<'a, L: Ledger> Station<'a, L> {
         self.post.wake();
     }
 
+    /// So of a cast, whose frame is for all others.
+    pub fn hand_on_cast<R: Wait>(&mut self, rt: &R, before: usize, bytes: Bytes) {
+        self.post.put_receipts(rt, &self.seat);
+        let place = self.place(rt, before);
+        self.post.put_frame(rt, place, Outgoing { to: None, bytes });
+        self.post.wake();
+    }
+
     /// Up to where entries are to be kept before the frames of a call may be sent. A call that added
     /// no entry waits for all that there are: its frames may tell of what others have added.
     fn place<R: Wait>(&mut self, rt: &R, before: usize) -> usize
@@ -85,18 +89,4 @@ impl<'a, L: Ledger> Station<'a, L> {
                 .with_state(rt, &mut self.seat, |member| member.history().len()),
         }
     }
-}
-
-/// The frames that ask third members for the missing casts of each other sender.
-fn helps_of(alloc: Global, member: &Member) -> Result<Vec<Outgoing>, HelpFault> {
-    let seat = member.seat();
-    let mut helps = Vec::new(alloc);
-    for sender in 0..seat.group().size() {
-        if sender != seat.me() {
-            if let Some(help) = member.help(sender)? {
-                helps.push(help)?;
-            }
-        }
-    }
-    Ok(helps)
 }

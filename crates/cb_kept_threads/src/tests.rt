@@ -2,9 +2,12 @@
 
 ghost use Rattle.std.specs.Prelude.{◌≡◌, []};
 
+mod asking;
 mod coming_back;
 mod failing;
 mod group;
+mod losing;
 mod parts;
 mod settling;
+mod speaking;
 mod writer;

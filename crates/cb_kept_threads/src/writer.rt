@@ -1,7 +1,11 @@
 //! The worker that keeps entries, and sends.
 
-ghost use Rattle.std.specs.Prelude.{◌≡◌, ◌≤◌};
+ghost use Rattle.std.specs.Prelude.{◌≡◌, ℕ, ◌≤◌, List, None, false, length};
+ghost use Rattle.cb_history.specs.Facts.{EntryFields};
 ghost use Rattle.cb_links.specs.Counts.{Counts};
+ghost use Rattle.cb_outbox.specs.Outbox.{Follows, IsThere, WaitOn};
+ghost use Rattle.cb_kept_threads.specs.Settling.{HasCome};
+ghost use Rattle.cb_kept_threads.specs.Writing.{Takes};
 
 use crate::board::Board;
 use crate::post::Posted;
@@ -24,7 +28,8 @@ pub struct Writing<O> {
 
 impl<O> Writing<O> {
     pub fn new(alloc: Global, outlet: O) -> Writing<O>
-        ensures { result.outlet ≡ outlet }
+        ensures outlet { result.outlet ≡ outlet }
+        ensures counts { (result.lost ≡ 0) × (result.failures ≡ 0) }
     {
         Writing {
             outlet,
@@ -35,7 +40,9 @@ impl<O> Writing<O> {
     }
 
     /// The outlet, the frames that were lost, and how often the outlet failed.
-    pub fn into_parts(self) -> (O, u64, u64) {
+    pub fn into_parts(self) -> (O, u64, u64)
+        ensures { result ≡ (self.outlet, self.lost, self.failures) }
+    {
         let Writing {
             outlet,
             list,
@@ -71,7 +78,10 @@ impl<O: Outlet> Writing<O> {
         writing
     }
 
-    fn take<K: Keeper>(&mut self, outbox: &mut Outbox<K>, posted: Posted) {
+    fn take<K: Keeper>(&mut self, outbox: &mut Outbox<K>, posted: Posted)
+        ensures taken { Takes outbox.old outbox.new self.old.lost self.new.lost posted }
+        ensures failures { self.new.failures ≡ self.old.failures }
+    {
         match posted {
             Posted::Entry { place, entry } => {
                 // A place that is taken or kept already is one that was posted twice.
@@ -118,7 +128,13 @@ impl<O: Outlet> Writing<O> {
 
     /// Takes frames that may be sent, as many as are sent at once. Whether there may be more. One for
     /// which memory is refused is lost, as on the way.
-    fn gather<K: Keeper>(&mut self, outbox: &mut Outbox<K>) -> bool {
+    fn gather<K: Keeper>(&mut self, outbox: &mut Outbox<K>) -> bool
+        ensures outbox { outbox.new ≡ record outbox.old { waiting = outbox.new.waiting } }
+        ensures none { result ≡ false → outbox.new.fault ≡ None → WaitOn outbox.new.kept
+            outbox.new.waiting (length outbox.new.waiting) }
+        ensures lost { self.old.lost ≤ self.new.lost }
+        ensures failures { self.new.failures ≡ self.old.failures }
+    {
         for _ in 0..MOST_AT_ONCE {
             let Some(frame) = outbox.release() else {
                 return false;
@@ -142,10 +158,31 @@ impl<O: Outlet> Writing<O> {
 }
 
 /// Keeps entries until the next one has not come, or could not be kept.
-pub fn keep_all<K: Keeper, R: Wait>(rt: &R, outbox: &mut Outbox<K>) {
+pub fn keep_all<K: Keeper, R: Wait>(rt: &R, outbox: &mut Outbox<K>)
+    ensures follows { (history : List EntryFields) → Follows K.has history outbox.old
+        → Follows K.has history outbox.new }
+    ensures all { outbox.new.fault ≡ None → IsThere outbox.new.early 0 → ⊥ }
+    ensures waiting { outbox.new.waiting ≡ outbox.old.waiting }
+    ensures stay { (place : ℕ) → HasCome outbox.old place → HasCome outbox.new place }
+{
     for _ in rt.forever() {
-        if outbox.keep_next() != Ok(true) {
-            break;
+        if !keeps_one(outbox) {
+            return;
         }
+    }
+}
+
+/// Keeps the next entry, where it has come and there is no fault. Whether one was kept.
+#[tactic(auto, using(crate::proofs::Coming::kept_stay))]
+fn keeps_one<K: Keeper>(outbox: &mut Outbox<K>) -> bool
+    ensures follows { (history : List EntryFields) → Follows K.has history outbox.old
+        → Follows K.has history outbox.new }
+    ensures none { result ≡ false → outbox.new.fault ≡ None → IsThere outbox.new.early 0 → ⊥ }
+    ensures waiting { outbox.new.waiting ≡ outbox.old.waiting }
+    ensures stay { (place : ℕ) → HasCome outbox.old place → HasCome outbox.new place }
+{
+    match outbox.keep_next() {
+        Ok(came) => came,
+        Err(_) => false,
     }
 }

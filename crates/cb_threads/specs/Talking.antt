@@ -51,9 +51,13 @@ left_by before (tried.One payload (Err refusal)) = if may_pass refusal then Some
 left_by before (tried.Many payloads (Ok done)) = before
 left_by before (tried.Many payloads (Err refusal)) = if burst_may_pass refusal then Some (given.Many payloads) else None
 
+-- it was cast
+abbrev pub is_cast : Tried → Bool
+is_cast (tried.One payload (Ok done)) = true
+is_cast (tried.One payload (Err refusal)) = false
+is_cast (tried.Many payloads (Ok done)) = true
+is_cast (tried.Many payloads (Err refusal)) = false
+
 -- the turn in which it was tried
 abbrev pub turn_by : Tried → Turn
-turn_by (tried.One payload (Ok done)) = turns.Done
-turn_by (tried.One payload (Err refusal)) = turns.Idle
-turn_by (tried.Many payloads (Ok done)) = turns.Done
-turn_by (tried.Many payloads (Err refusal)) = turns.Idle
+turn_by attempt = if is_cast attempt then turns.Done else turns.Idle

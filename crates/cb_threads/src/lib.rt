@@ -8,6 +8,8 @@
 //! says that a frame arrives or that a worker gets on; `docs/GUIDE.md` says what a user may rely on.
 #![tactic(auto)]
 
+mod again;
+mod asking;
 mod ended;
 mod gathering;
 mod group;
@@ -21,6 +23,8 @@ mod talker;
 mod threads;
 mod workers;
 
+pub use again::outcome;
+pub use asking::{Ticks, help_frames};
 pub use cb_links::{
     ChannelInlet, ChannelLink, ChannelOutlet, FailInlet, FailOutlet, Inlet, LONGEST_FRAME,
     LinkFault, Outlet, Received, TcpInlet, TcpLink, TcpOutlet, UdpInlet, UdpLink, UdpOutlet,

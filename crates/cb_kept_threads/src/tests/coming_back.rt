@@ -203,7 +203,7 @@ fn share<L: Ledger + Send + Sync, R: Threads + Wait + Clock + Abort + Sync>(
     let (kept, shown) = (member.history().len(), member.events().len());
     let outbox = Outbox::new(part.alloc, writer, kept, shown);
     let goes_on = SharedMember::<L>::going_on(part.alloc, blank, member);
-    let (shared, seat) = goes_on.expect(rt, "memory");
+    let (shared, seat) = goes_on.ok().expect(rt, "memory");
     let (report, seats) = run_shared(rt, &shared, seat, outbox, part);
     match shared.close(seats) {
         Ok(Closed { member }) => what_is_left(rt, member, report),
@@ -238,7 +238,7 @@ fn run_shared<'a, L: Ledger + Send + Sync, R: Threads + Wait + Clock + Sync>(
         talking: &ending.talking,
         stop: &ending.stop,
     };
-    let limits = Limits { turns: 100_000 };
+    let limits = Limits { turns: 10_000 };
     let pace = millisecond();
     let stop = &ending.stop;
     run_member_kept(

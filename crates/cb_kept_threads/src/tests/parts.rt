@@ -1,10 +1,12 @@
 //! Parts for tests: keepers in memory, and who watches what is sent and shown before it is kept.
 
+use crate::post::Posted;
 use crate::{Every, Inlet, KeepFault, Keeper, LinkFault, Outlet, Received, Stop, Talk, Talker};
 use bytes::Bytes;
-use cb_links::wait;
+use cb_links::{Mailbox, wait};
 use cb_member::{Entry, Event, NoMemory, Outgoing};
 use std::alloc::Global;
+use std::process::Abort;
 use std::sync::Wait;
 use std::sync::atomic::{AtomicU64, AtomicUsize, Ordering};
 use std::thread::yield_now;
@@ -173,4 +175,19 @@ impl<'a> Talker for Counting<'a> {
         }
         Ok(Talk::Finished)
     }
+}
+
+/// The frames that wait there, a hundred at most.
+pub fn frames<R: Wait + Abort>(rt: &R, alloc: Global, mailbox: &Mailbox<Posted>) -> Vec<Bytes> {
+    let mut frames = Vec::new(alloc);
+    for _posted in 0..100u32 {
+        match mailbox.more(rt) {
+            Some(Posted::Frame { place: _, frame }) => {
+                frames.push(frame.bytes).expect(rt, "memory");
+            }
+            Some(Posted::Entry { place: _, entry }) => drop(entry),
+            None => break,
+        }
+    }
+    frames
 }

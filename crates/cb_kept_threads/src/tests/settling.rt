@@ -5,8 +5,8 @@ ghost use Rattle.std.specs.Prelude.{◌≡◌, []};
 use super::parts::{InMemory, Watch};
 use crate::Outbox;
 use crate::settle::settle;
-use cb_lock::{Seat, SharedMember};
-use cb_member::{Group, Member};
+use cb_lock::{Closed, Seat, SharedMember};
+use cb_member::{Entry, Group, Member};
 use std::alloc::Global;
 use std::marker::Brand;
 use std::process::Abort;
@@ -16,12 +16,17 @@ use std::test::*;
 
 #[test]
 fn what_was_not_posted_is_kept_when_the_workers_have_ended(rt: HostRuntime) {
-    let kept = settled::<Brand, _>(&rt, rt.alloc(), Blank::new(2));
-    assert_eq!(&rt; kept, 3);
+    let (entries, member) = settled::<Brand, _>(&rt, rt.alloc(), Blank::new(2));
+    let is_whole = entries.as_slice() == member.history();
+    let count = entries.len();
+    drop(entries);
+    drop(member);
+    assert!(&rt; is_whole);
+    assert_eq!(&rt; count, 3);
 }
 
-/// Of three entries in two seats the first was posted.
-fn settled<L: Ledger, R: Wait + Abort>(rt: &R, alloc: Global, blank: Blank) -> usize
+/// Of three entries in two seats the first was posted. What the keeper has in the end, and the member.
+fn settled<L: Ledger, R: Wait + Abort>(rt: &R, alloc: Global, blank: Blank) -> (Vec<Entry>, Member)
     requires { (blank.name ≡ L.name) × (blank.parts ≡ L.parts) × (blank.parts ≡ 2) }
 {
     let group = Group::new(7, 2, 4).expect(rt, "a group");
@@ -31,7 +36,6 @@ fn settled<L: Ledger, R: Wait + Abort>(rt: &R, alloc: Global, blank: Blank) -> u
     drop(shared.cast(rt, &mut seat, b"a").expect(rt, "a cast"));
     drop(shared.tick(rt, &mut other).expect(rt, "a tick"));
     drop(shared.cast(rt, &mut seat, b"b").expect(rt, "a cast"));
-    drop(shared);
     let watch = Watch::of_one_who_was_asked();
     let keeper = InMemory {
         watch: &watch,
@@ -44,8 +48,11 @@ fn settled<L: Ledger, R: Wait + Abort>(rt: &R, alloc: Global, blank: Blank) -> u
     seats.push(seat).expect(rt, "memory");
     seats.push(other).expect(rt, "memory");
     settle(rt, &mut outbox, &seats);
-    drop(seats);
-    outbox.kept()
+    let entries = outbox.into_keeper().entries;
+    match shared.close(seats) {
+        Ok(Closed { member }) => (entries, member),
+        Err(refusal) => panic!(rt; "{:?}", refusal.fault),
+    }
 }
 
 fn enter_first<L: Ledger>(rt: &impl Abort, outbox: &mut Outbox<InMemory<'_>>, seat: &Seat<L>) {

@@ -1,18 +1,17 @@
 //! The worker that casts what the talker says.
 
-ghost use Rattle.std.specs.Prelude.{◌≡◌, ◌+◌, IfOk, MatchResult, None, Some, drop, if◌then◌else◌, length};
+ghost use Rattle.std.specs.Prelude.{◌≡◌, ◌+◌, IfOk, MatchResult, drop};
 ghost use Rattle.cb_history.specs.State.{events_in};
 ghost use Rattle.cb_links.specs.Counts.{held};
-ghost use Rattle.cb_lock.specs.declared.payloads.Payloads.TheVariants.{Many, One};
-ghost use Rattle.cb_threads.specs.declared.workers.turns.Turn.TheVariants.{Done, Idle};
-ghost use Rattle.cb_threads.specs.Talking.{burst_may_pass, cast_of, left_by, may_pass, turn_by, turn_of};
+ghost use Rattle.cb_threads.specs.Talking.{cast_of, left_by, turn_by, turn_of};
 
+use crate::again::outcome;
 use crate::limits::Ending;
 use crate::talker::{Talk, Talker};
 use crate::workers::turns::{Failed, Place, Role, Turn};
 use bytes::Bytes;
 use cb_lock::{Payloads, Tried};
-use cb_member::{BurstRefusal, CastRefusal, Event, Member, NoMemory, Outgoing};
+use cb_member::{Event, Member, NoMemory, Outgoing};
 use std::alloc::Global;
 use std::mem;
 use std::sync::Wait;
@@ -184,50 +183,6 @@ impl<T: Talker> Talking<T> {
                 self.waiting = left;
                 Turn::Idle
             }
-        }
-    }
-}
-
-/// The frame that was cast, or what is to be cast again.
-fn outcome(tried: Tried) -> Result<Bytes, Option<Payloads>>
-    ensures left { (before : _) → MatchResult result (λ _. left_by before tried ≡ before)
-        (λ left. left_by before tried ≡ left) }
-    ensures turn { MatchResult result (λ _. turn_by tried ≡ Done) (λ _. turn_by tried ≡ Idle) }
-{
-    match tried {
-        Tried::One(payload, answer) => match answer {
-            Ok(done) => Ok(done.out),
-            Err(refusal) => Err(left_to_cast(payload, refusal)),
-        },
-        Tried::Many(payloads, answer) => match answer {
-            Ok(done) => Ok(done.out),
-            Err(refusal) => Err(left_of_burst(payloads, refusal)),
-        },
-    }
-}
-
-/// What is to be cast again behind a refusal: the payload, but for one that is too long, which
-/// never can be cast.
-fn left_to_cast(payload: Vec<u8>, refusal: CastRefusal) -> Option<Payloads>
-    ensures { result ≡ if may_pass refusal then Some (One payload) else None }
-{
-    match refusal {
-        CastRefusal::PayloadTooLong => None,
-        CastRefusal::WindowFull | CastRefusal::HistoryFull | CastRefusal::NoMemory => {
-            Some(Payloads::One(payload))
-        }
-    }
-}
-
-/// So of a burst: but for one that is empty, of too many payloads or of too many bytes.
-fn left_of_burst(payloads: Vec<Vec<u8>>, refusal: BurstRefusal) -> Option<Payloads>
-    ensures { result ≡ if burst_may_pass refusal then Some (Many payloads) else None }
-{
-    match refusal {
-        BurstRefusal::EmptyBurst | BurstRefusal::BurstTooLong | BurstRefusal::PayloadTooLong =>
-            None,
-        BurstRefusal::WindowFull | BurstRefusal::HistoryFull | BurstRefusal::NoMemory => {
-            Some(Payloads::Many(payloads))
         }
     }
 }

@@ -1,31 +1,23 @@
 //! The worker that ticks, and asks third members for what others do not send.
 
-ghost use Rattle.std.specs.Prelude.{◌≡◌, ◌+◌, ◌%◌, ◌^◌, Decides, IfOk};
-ghost use Rattle.cb_lock.specs.Calls.{OnSome};
-ghost use Rattle.cb_threads.specs.Helps.{helps_of, is_fourth};
+ghost use Rattle.std.specs.Prelude.{◌≡◌};
 
+use crate::asking::{Ticks, help_frames};
 use crate::limits::Ending;
 use crate::pace::{Pace, PaceFault};
 use crate::workers::turns::{Failed, Place, Role, Turn};
-use cb_member::{HelpFault, Member, Outgoing};
-use std::alloc::Global;
 use std::sync::Wait;
 use std::sync::ledger::Ledger;
 use std::time::Clock;
 
-/// How many ticks there are from one time that it asks third members to the next.
-const TICKS_A_HELP: u64 = 4;
-
 /// Ticks once in each turn, and then waits as the pace has it. A tick that finds no memory is made
 /// again in the next turn.
 ///
-/// Behind each fourth tick it asks third members for the missing casts of each other sender: its
-/// own ticks have asked the sender three times by then.
+/// Behind each fourth tick it asks third members for the missing casts of each other sender.
 #[derive(Drop)]
 pub struct Ticking<P> {
     pub pace: P,
-    /// How many ticks were made.
-    ticks: u64,
+    ticks: Ticks,
 }
 
 impl<P: Pace + Send + Drop> Role for Ticking<P> {
@@ -40,7 +32,7 @@ impl<P: Pace + Send + Drop> Role for Ticking<P> {
         rt: &R,
         place: &mut Place<'_, L>,
     ) -> Result<Turn, Failed> {
-        if place.tick(rt) && self.counts_to_four() {
+        if place.tick(rt) && self.ticks.counts_to_four() {
             place.help(rt);
         }
         match self.pace.wait(rt) {
@@ -56,20 +48,12 @@ impl<P: Pace + Send + Drop> Role for Ticking<P> {
 
 impl<P> Ticking<P> {
     pub fn new(pace: P) -> Ticking<P>
-        ensures pace { result.pace ≡ pace }
-        ensures ticks { result.ticks ≡ 0 }
+        ensures { result.pace ≡ pace }
     {
-        Ticking { pace, ticks: 0 }
-    }
-
-    /// Counts a tick that was made. Whether it is a fourth one.
-    fn counts_to_four(&mut self) -> bool
-        ensures pace { self.new.pace ≡ self.old.pace }
-        ensures counted { self.new.ticks ≡ (self.old.ticks + 1) % 2 ^ 64 }
-        ensures fourth { Decides result (is_fourth self.new.ticks) }
-    {
-        self.ticks = self.ticks.wrapping_add(1);
-        self.ticks % TICKS_A_HELP == 0
+        Ticking {
+            pace,
+            ticks: Ticks::new(),
+        }
     }
 }
 
@@ -87,34 +71,9 @@ impl<'a, L: Ledger> Place<'a, L> {
 
     /// Sends the help frames. Where memory is refused none is sent.
     fn help<R: Wait>(&mut self, rt: &R) {
-        if let Ok(helps) = self.helps(rt) {
+        let desk = self.desk;
+        if let Ok(helps) = help_frames(rt, desk.alloc, desk.shared, &mut self.seat) {
             self.post.put_all(rt, helps);
         }
     }
-
-    /// The help frames of the member, by one look at it.
-    fn helps<R: Wait>(&mut self, rt: &R) -> Result<Vec<Outgoing>, HelpFault>
-        ensures { OnSome self.old.seat (λ m. IfOk result (λ helps. helps.items ≡ helps_of m)) }
-    {
-        let alloc = self.desk.alloc;
-        self.desk
-            .shared
-            .with_state(rt, &mut self.seat, move |member| helps_of(alloc, member))
-    }
-}
-
-/// The frames that ask third members for the missing casts of each other sender, in rising order.
-fn helps_of(alloc: Global, member: &Member) -> Result<Vec<Outgoing>, HelpFault>
-    ensures { IfOk result (λ helps. helps.items ≡ helps_of member.now) }
-{
-    let seat = member.seat();
-    let mut helps = Vec::new(alloc);
-    for sender in 0..seat.group().size() {
-        if sender != seat.me() {
-            if let Some(help) = member.help(sender)? {
-                helps.push(help)?;
-            }
-        }
-    }
-    Ok(helps)
 }

@@ -5,8 +5,8 @@ use Rattle.cb_history.specs.declared.answer.Outgoing.{Outgoing}
 use Rattle.cb_history.specs.declared.answer.HelpFault.{HelpFault}
 use Rattle.cb_threads.specs.Helps.{frame_of, helps_of}
 use Rattle.cb_threads.proofs.Helps.{help_more, help_same}
-use Rattle.cb_threads.proofs.workers.timer.helps_of.Goals as goal
-use Rattle.cb_threads.proofs.workers.timer.helps_of.Goals.{then-sender-me+in_ok-help+in-Some+in_ok-push, then-sender-me+in_ok-help+in_default, else-sender-me}
+use Rattle.cb_threads.proofs.asking.helps_of.Goals as goal
+use Rattle.cb_threads.proofs.asking.helps_of.Goals.{then-sender-me+in_ok-help+in-Some+in_ok-push, then-sender-me+in_ok-help+in_default, else-sender-me}
 
 pub loop-sender-preserved : goal.loop-sender-preserved
 loop-sender-preserved c =

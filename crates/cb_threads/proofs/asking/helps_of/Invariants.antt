@@ -1,7 +1,7 @@
 use Rattle.std.proofs.Common.{◌≡◌, ◌-◌, ◌++◌}
 use Rattle.std.specs.List.{range_with_len}
 use Rattle.cb_threads.specs.Helps.{helps_for, helps_of}
-use Rattle.cb_threads.proofs.workers.timer.helps_of.Given as goal
+use Rattle.cb_threads.proofs.asking.helps_of.Given as goal
 
 -- the helps so far, and those for the senders to come
 abbrev pub invariant-loop-sender : goal.invariant-loop-sender

@@ -1,0 +1,67 @@
+//! What a member asks third members for, and how often.
+
+ghost use Rattle.std.specs.Prelude.{◌≡◌, ◌+◌, ◌%◌, ◌^◌, Decides, IfOk};
+ghost use Rattle.cb_lock.specs.Calls.{OnSome};
+ghost use Rattle.cb_threads.specs.Helps.{helps_of, is_fourth};
+
+use cb_lock::{Seat, SharedMember};
+use cb_member::{HelpFault, Member, Outgoing};
+use std::alloc::Global;
+use std::sync::Wait;
+use std::sync::ledger::Ledger;
+
+/// How many ticks there are from one time that third members are asked to the next.
+const TICKS_A_HELP: u64 = 4;
+
+/// How many ticks a member made, modulo 2^64.
+#[derive(Drop)]
+pub struct Ticks {
+    made: u64,
+}
+
+impl Ticks {
+    /// None was made.
+    pub fn new() -> Ticks
+        ensures { result.made ≡ 0 }
+    {
+        Ticks { made: 0 }
+    }
+
+    /// Counts a tick that was made. Whether it is a fourth one, behind which third members are
+    /// asked.
+    pub fn counts_to_four(&mut self) -> bool
+        ensures counted { self.new.made ≡ (self.old.made + 1) % 2 ^ 64 }
+        ensures fourth { Decides result (is_fourth self.new.made) }
+    {
+        self.made = self.made.wrapping_add(1);
+        self.made % TICKS_A_HELP == 0
+    }
+}
+
+/// The frames that ask third members for the missing casts of each other sender, in rising order of
+/// the senders, by one look at the member. `NoMemory` is the only fault.
+pub fn help_frames<L: Ledger, R: Wait>(
+    rt: &R,
+    alloc: Global,
+    shared: &SharedMember<L>,
+    seat: &mut Seat<L>,
+) -> Result<Vec<Outgoing>, HelpFault>
+    ensures { OnSome seat.old (λ m. IfOk result (λ helps. helps.items ≡ helps_of m)) }
+{
+    shared.with_state(rt, seat, move |member| helps_of(alloc, member))
+}
+
+fn helps_of(alloc: Global, member: &Member) -> Result<Vec<Outgoing>, HelpFault>
+    ensures { IfOk result (λ helps. helps.items ≡ helps_of member.now) }
+{
+    let seat = member.seat();
+    let mut helps = Vec::new(alloc);
+    for sender in 0..seat.group().size() {
+        if sender != seat.me() {
+            if let Some(help) = member.help(sender)? {
+                helps.push(help)?;
+            }
+        }
+    }
+    Ok(helps)
+}
