@@ -4,8 +4,7 @@ ghost use Rattle.std.specs.Prelude.{◌≡◌};
 ghost use Rattle.confer_node.specs.Statuses.{journal_status};
 ghost use Rattle.confer_node.specs.declared.journal.JournalFault.TheVariants.{NoMemory as OutOfMemory};
 
-use crate::record::put_head;
-use cb_journal::{AppendFault, Device, Journal, JournalWriter, ReadFault, read_journal};
+use cb_journal::{AppendFault, Device, Journal, JournalWriter, ReadFault, put_head, read_journal};
 use cb_member::{History, Identity, Member, NewFault};
 use cb_replay::{ResumeFault, resume};
 use cb_times::NoMemory;
@@ -100,6 +99,9 @@ pub struct Kept<D> {
 
 /// The member of this seat that comes back by the journal in this file, or one that begins it, where
 /// no entry was written yet. No other process can come back by it while this one has it.
+///
+/// A file by which nobody comes back stays byte for byte as it was; where it is `NotWritten`, its
+/// whole lines do.
 pub fn come_back<R: Files<File = File>>(
     rt: &R,
     alloc: Global,
@@ -166,27 +168,40 @@ pub fn kept_by<D: Device + Drop>(
     }
 }
 
-/// The member comes back by its journal. Nothing is cut off the journal of another one.
+/// The member comes back by its journal. What stands behind the whole lines is cut off only then.
 fn back<D: Device + Drop>(
     alloc: Global,
     seat: Identity,
     journal: Journal,
     device: D,
 ) -> Result<Kept<D>, JournalFault> {
-    if !is_of(&journal.history, seat) {
-        return Err(JournalFault::OtherJournal);
-    }
-    let writer = JournalWriter::go_on(alloc, device, &journal)?;
     let Journal {
         history,
-        read: _,
-        torn: _,
+        read,
+        torn,
     } = journal;
+    if !is_of(&history, seat) {
+        return Err(JournalFault::OtherJournal);
+    }
     let member = resume(alloc, history, HISTORY_MAX)?;
-    Ok(Kept {
-        member,
-        journal: writer,
-    })
+    // The member has the entries. To go on only the lengths are needed; what the writer says of the
+    // entries that were read is said of none here.
+    let lengths = Journal {
+        history: no_entries(alloc, seat),
+        read,
+        torn,
+    };
+    let journal = JournalWriter::go_on(alloc, device, &lengths)?;
+    Ok(Kept { member, journal })
+}
+
+/// The history of this member before its first entry.
+fn no_entries(alloc: Global, seat: Identity) -> History {
+    History {
+        group: seat.group(),
+        me: seat.me(),
+        entries: Vec::new(alloc),
+    }
 }
 
 /// Whether this history is that of the member.

@@ -2,11 +2,12 @@
 
 ghost use Rattle.std.specs.Prelude.{◌≡◌, ◌++◌, IfOk, OnOk, map};
 ghost use Rattle.cb_history.specs.Facts.{entry_fields};
-ghost use Rattle.cb_journal.specs.Journal.{head_line, journal_text};
+ghost use Rattle.cb_journal.specs.Journal.{journal_text};
 ghost use Rattle.cb_lines.specs.Text.{entry_line, text_of_lines};
 
-use cb_lines::{put_entry, put_group, put_number};
-use cb_member::{Entry, Identity, Member};
+use cb_journal::put_head;
+use cb_lines::put_entry;
+use cb_member::{Entry, Member};
 use cb_times::NoMemory;
 use std::alloc::Global;
 
@@ -21,15 +22,6 @@ pub fn record_of(alloc: Global, member: &Member) -> Result<Vec<u8>, NoMemory>
     text.extend_from_slice(b"\n")?;
     put_entries(&mut text, member.history())?;
     Ok(text)
-}
-
-/// The first line, without its line feed.
-pub fn put_head(out: &mut Vec<u8>, seat: Identity) -> Result<(), NoMemory>
-    ensures { OnOk result (out.new.items ≡ out.old.items ++ head_line seat) }
-{
-    put_group(out, seat.group())?;
-    out.extend_from_slice(b" member ")?;
-    put_number(out, seat.me())
 }
 
 #[tactic(auto, unfolding(cb_lines::specs::Text::text_of_lines))]

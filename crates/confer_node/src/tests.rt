@@ -3,4 +3,5 @@
 mod journals;
 mod lines;
 mod parts;
+mod runs;
 mod sessions;

@@ -2,11 +2,11 @@
 
 use crate::journal::{JournalFault, Kept, come_back, kept_by};
 use cb_member::{Group, Identity};
-use std::alloc::Global;
-use std::fs;
-use std::fs::{File, Files, OpenOptions};
-use std::io::Write;
+use std::alloc::{Allocator, Global};
+use std::fs::{File, Files, Metadata, OpenOptions};
+use std::io::{ErrorKind, Write};
 use std::process::Abort;
+use std::{fs, io};
 
 /// Member 0 of two.
 fn seat(rt: &impl Abort) -> Identity {
@@ -87,6 +87,71 @@ fn a_file_in_no_folder_is_not_opened(rt: HostRuntime) {
     assert_eq!(&rt; answer, Some(JournalFault::NotOpened));
 }
 
+/// Files of a folder that cannot be opened.
+#[derive(Drop)]
+struct Shut<'a, R> {
+    files: &'a R,
+}
+
+impl<R: Files<File = File>> Files for Shut<'_, R> {
+    type File = File;
+
+    type Dir = R::Dir;
+
+    fn open_file(&self, how: &OpenOptions, path: &str) -> io::Result<File> {
+        match path {
+            "." => Err(ErrorKind::PermissionDenied.into()),
+            _ => self.files.open_file(how, path),
+        }
+    }
+
+    fn open_dir(&self, path: &str) -> io::Result<R::Dir> {
+        self.files.open_dir(path)
+    }
+
+    fn metadata(&self, path: &str) -> io::Result<Metadata> {
+        self.files.metadata(path)
+    }
+
+    fn symlink_metadata(&self, path: &str) -> io::Result<Metadata> {
+        self.files.symlink_metadata(path)
+    }
+
+    fn copy(&self, from: &str, to: &str) -> io::Result<u64> {
+        self.files.copy(from, to)
+    }
+
+    fn rename(&self, from: &str, to: &str) -> io::Result<()> {
+        self.files.rename(from, to)
+    }
+
+    fn remove_file(&self, path: &str) -> io::Result<()> {
+        self.files.remove_file(path)
+    }
+
+    fn create_dir(&self, path: &str) -> io::Result<()> {
+        self.files.create_dir(path)
+    }
+
+    fn remove_dir(&self, path: &str) -> io::Result<()> {
+        self.files.remove_dir(path)
+    }
+
+    fn remove_dir_all<B: Allocator>(&self, alloc: B, path: &str) -> io::Result<()> {
+        self.files.remove_dir_all(alloc, path)
+    }
+}
+
+/// The name of the file may be lost in a crash, and the member with it.
+#[test]
+fn a_folder_that_is_not_synced_brings_nobody_back(rt: HostRuntime) {
+    let path = "shut.journal";
+    let files = Shut { files: &rt };
+    let answer = come_back(&files, rt.alloc(), seat(&rt), path).err();
+    let _ = fs::remove_file(&rt, path);
+    assert_eq!(&rt; answer, Some(JournalFault::NotWritten));
+}
+
 /// What is answered for these bytes: how many entries the member has, or the fault.
 fn answer(rt: &impl Abort, alloc: Global, text: &[u8]) -> Result<usize, JournalFault> {
     let device = Vec::from_slice(alloc, text).expect(rt, "memory");
@@ -131,6 +196,38 @@ fn an_entry_that_no_call_adds_brings_nobody_back(rt: HostRuntime) {
     let text = b"cbcast 1 group 7 size 2 window 4 member 0\ncast 11070002000174\n";
     let wanted = Err(JournalFault::NotLegal { entry: 1 });
     assert_eq!(&rt; answer(&rt, rt.alloc(), text), wanted);
+}
+
+/// Files that bring nobody back, and why. Most of them end with a torn line.
+const NOBODY: &[(&str, JournalFault)] = &[
+    (
+        "cbcast 1 group 7 size 2 window 4 member 0\ncast 11070002000174\ncast 1107",
+        JournalFault::NotLegal { entry: 1 },
+    ),
+    (
+        "cbcast 1 group 7 size 2 window 4 member 1\ncast 1107",
+        JournalFault::OtherJournal,
+    ),
+    (
+        "cbcast 1 group 7 size 2 window 4 member 0\nsaid 1107\ncast 1107",
+        JournalFault::BadLine { line: 2 },
+    ),
+    ("my own notes\ncast 1107", JournalFault::BadLine { line: 1 }),
+    ("my own notes", JournalFault::BadLine { line: 1 }),
+];
+
+#[test]
+fn a_journal_by_which_nobody_comes_back_stays_as_it_was(rt: HostRuntime) {
+    let path = "stays.journal";
+    for (text, fault) in NOBODY {
+        fs::write(&rt, path, text.as_bytes()).expect(&rt, "the file");
+        let answer = come_back(&rt, rt.alloc(), seat(&rt), path).err();
+        let found = fs::read(&rt, path).expect(&rt, "the file");
+        let is_same = found.as_slice() == text.as_bytes();
+        drop(found);
+        let _ = fs::remove_file(&rt, path);
+        assert_eq!(&rt; (answer, is_same), (Some(*fault), true));
+    }
 }
 
 #[test]

@@ -113,6 +113,8 @@ fn words_order_a_member(rt: HostRuntime) {
         THERE,
         "--link",
         "tcp",
+        "--journal",
+        "kept",
         "--trace",
         "file",
         "--for",
@@ -123,6 +125,7 @@ fn words_order_a_member(rt: HostRuntime) {
     let group = order.seat.group();
     assert_eq!(&rt; (group.number(), group.size(), group.window()), (7, 2, 16));
     assert_eq!(&rt; order.link, LinkKind::Tcp);
+    assert_eq!(&rt; order.journal, Some("kept"));
     assert_eq!(&rt; order.trace, Some("file"));
     assert_eq!(&rt; order.patience, Some(Duration::from_secs(5)));
     drop(order);
