@@ -1,7 +1,8 @@
 //! Burst frames as values and as bytes.
 
 use crate::asserts::{holds_at, same};
-use crate::frames::{changes_of, decoded, has_fault, is_whole_only, many};
+use crate::faults::has_fault;
+use crate::frames::{changes_of, decoded, is_whole_only, many};
 use bytes::Bytes;
 use cb_frames::{
     Burst, Change, EncodeFault, Frame, FrameFault, FrameReader, LAST_NUMBER, MOST_MESSAGES, decode,

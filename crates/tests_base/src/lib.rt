@@ -11,6 +11,8 @@ mod bursts;
 #[cfg(test)]
 mod differences;
 #[cfg(test)]
+mod faults;
+#[cfg(test)]
 mod frames;
 #[cfg(test)]
 mod index;
