@@ -29,7 +29,7 @@ finds_planted() {
 }
 
 fault=0
-for target in member stream group; do
+for target in member stream group journal; do
     fault=$((fault + 1))
     finds_nothing "$target"
     told $? "$target finds nothing in $seconds s: $(sed -n 's/^stat::number_of_executed_units: *//p' "$work/said") inputs"

@@ -20,6 +20,7 @@ static struct {
     uint32_t times[MOST_HEADS * JOLUNZA_MOST_MEMBERS + 1];
     uint8_t bytes[MOST_BYTES + 1];
     jolunza_delayed delayed;
+    jolunza_journal journal;
     bool full;
     size_t count;
 } filled;
@@ -52,6 +53,7 @@ static void untouch_fronts(void)
     memset(filled.times, UNTOUCHED, sizeof(jolunza_counts));
     UNTOUCH(filled.bytes[0]);
     UNTOUCH(filled.delayed);
+    UNTOUCH(filled.journal);
     UNTOUCH(filled.full);
     UNTOUCH(filled.count);
 }
@@ -61,7 +63,7 @@ static bool are_fronts_untouched(void)
     return IS_UNTOUCHED(filled.received) && IS_UNTOUCHED(filled.frames[0]) && IS_UNTOUCHED(filled.events[0])
         && IS_UNTOUCHED(filled.entry) && IS_UNTOUCHED(filled.names[0]) && IS_UNTOUCHED(filled.ranges[0])
         && is_untouched(filled.times, sizeof(jolunza_counts)) && IS_UNTOUCHED(filled.bytes[0]) && IS_UNTOUCHED(filled.delayed)
-        && IS_UNTOUCHED(filled.full) && IS_UNTOUCHED(filled.count);
+        && IS_UNTOUCHED(filled.journal) && IS_UNTOUCHED(filled.full) && IS_UNTOUCHED(filled.count);
 }
 
 static size_t lesser(size_t a, size_t b)
@@ -252,6 +254,48 @@ static void same_entry(struct checked *checked, size_t index, struct room room)
     MUST(ENDS_AT(filled.bytes, length) && ENDS_AT(filled.names, names));
 }
 
+/* The line of an entry as the plain member's journal has it. It stands until the next call. */
+static const struct buffer *line_of(const struct model *model, size_t index)
+{
+    static struct buffer line;
+    struct place place = entry_at(model, index);
+    struct entry entry = {&entry_heads(model)[index], within(&model->log.entry_frames, place.frame),
+                          (const jolunza_name *)(const void *)within(&model->log.names, place.names * sizeof(jolunza_name))};
+
+    line.length = 0;
+    text_line(&line, &entry);
+    return &line;
+}
+
+/* What a call with this room has filled of a line, and its code. */
+static void is_told(uint32_t code, const struct buffer *line, size_t capacity)
+{
+    size_t length = lesser(line->length, capacity);
+
+    MUST(code == JOLUNZA_DONE && filled.count == line->length);
+    MUST(are_equal(filled.bytes, line->at, length) && ENDS_AT(filled.bytes, length));
+}
+
+static void same_line(struct checked *checked, size_t index, size_t capacity)
+{
+    const struct buffer *line = line_of(&checked->model, index);
+
+    UNTOUCH(filled.bytes[lesser(line->length, capacity)]);
+    is_told(reached(CALL_JOURNAL_LINE, jolunza_journal_line(&checked->handle, index, filled.bytes, capacity, &filled.count)), line,
+            capacity);
+}
+
+static void same_head(struct checked *checked, size_t capacity)
+{
+    static struct buffer line;
+
+    line.length = 0;
+    text_head(&line, &checked->model);
+    UNTOUCH(filled.bytes[lesser(line.length, capacity)]);
+    is_told(reached(CALL_JOURNAL_HEAD, jolunza_journal_head(&checked->handle, filled.bytes, capacity, &filled.count)), &line,
+            capacity);
+}
+
 static void same_event(struct checked *checked, size_t index, struct room room)
 {
     const struct model *model = &checked->model;
@@ -440,21 +484,29 @@ static bool is_out_of_memory(struct checked *checked, uint32_t code)
     return true;
 }
 
+/* What the library has just told of its journal is all of a line. */
+static void keep_line(struct checked *checked)
+{
+    MUST(filled.count <= MOST_BYTES);
+    append(&checked->text, filled.bytes, filled.count);
+}
+
+/* The entry is noted, and its line, as the library tells it. */
 static void note_entry(struct checked *checked, size_t index)
 {
-    struct buffer *journal = &checked->journal;
     struct place place = entry_at(&checked->model, index);
     const jolunza_entry_head *head = &entry_heads(&checked->model)[index];
-    size_t room = journal->length + sizeof *head + head->length;
 
-    if (journal->room < room) {
-        journal->room = 2 * room;
-        journal->at = realloc(journal->at, journal->room);
-        MUST(journal->at != NULL);
-    }
-    memcpy(journal->at + journal->length, head, sizeof *head);
-    memcpy(journal->at + journal->length + sizeof *head, checked->model.log.entry_frames.at + place.frame, head->length);
-    journal->length = room;
+    append(&checked->journal, head, sizeof *head);
+    append(&checked->journal, within(&checked->model.log.entry_frames, place.frame), head->length);
+    same_line(checked, index, MOST_BYTES);
+    keep_line(checked);
+}
+
+static void begin_text(struct checked *checked)
+{
+    same_head(checked, MOST_BYTES);
+    keep_line(checked);
 }
 
 /* The call is done. `entries` is how many the log had before it. */
@@ -475,15 +527,20 @@ static void answered(struct checked *checked, uint32_t code, uint32_t expected, 
     same(checked);
 }
 
+/* Nothing was read of the member, and nothing is noted. */
+static void begin_anew(struct checked *checked)
+{
+    checked->journal.length = checked->text.length = 0;
+    checked->loaded = checked->events_read = checked->payloads_read = checked->entries_read = 0;
+    checked->skips_frames = checked->skips_log = false;
+}
+
 uint32_t checked_open(struct checked *checked, struct settings settings)
 {
     uint32_t code, expected;
 
     model_close(&checked->model);
-    free(checked->journal.at);
-    checked->journal = (struct buffer){NULL, 0, 0};
-    checked->loaded = checked->events_read = checked->payloads_read = checked->entries_read = 0;
-    checked->skips_frames = checked->skips_log = false;
+    begin_anew(checked);
     checked->turn = 0;
     do {
         arm(checked);
@@ -493,8 +550,10 @@ uint32_t checked_open(struct checked *checked, struct settings settings)
     } while (is_out_of_memory(checked, code));
     expected = model_open(&checked->model, settings.group, settings.size, settings.window, settings.me, settings.limit);
     MUST(code == expected);
-    if (code == JOLUNZA_DONE)
+    if (code == JOLUNZA_DONE) {
+        begin_text(checked);
         same(checked);
+    }
     return code;
 }
 
@@ -504,7 +563,8 @@ void checked_close(struct checked *checked)
     MUST(!checked->handle.is_open);
     model_close(&checked->model);
     free(checked->journal.at);
-    checked->journal = (struct buffer){NULL, 0, 0};
+    free(checked->text.at);
+    checked->journal = checked->text = (struct buffer){NULL, 0, 0};
     checked->refuse = 0;
 }
 
@@ -709,6 +769,9 @@ static void none_there(struct checked *checked, size_t first)
     if (!checked->skips_log && first >= checked->model.log.entries)
         MUST(reached(CALL_ENTRY, jolunza_entry(&checked->handle, first, &filled.entry, filled.bytes, 1, filled.names, 1))
              == JOLUNZA_NONE_THERE);
+    if (!checked->skips_log && first >= checked->model.log.entries)
+        MUST(reached(CALL_JOURNAL_LINE, jolunza_journal_line(&checked->handle, first, filled.bytes, 1, &filled.count))
+             == JOLUNZA_NONE_THERE);
     MUST(are_fronts_untouched());
 }
 
@@ -724,6 +787,31 @@ static void missing_without_memory(struct checked *checked, uint32_t member)
     MUST(code == JOLUNZA_DONE || (code == JOLUNZA_NO_MEMORY && IS_UNTOUCHED(filled.ranges) && IS_UNTOUCHED(filled.count)));
 }
 
+static uint32_t call_head(struct checked *checked, size_t index)
+{
+    (void)index;
+    return reached(CALL_JOURNAL_HEAD, jolunza_journal_head(&checked->handle, filled.bytes, 1, &filled.count));
+}
+
+static uint32_t call_line(struct checked *checked, size_t index)
+{
+    return reached(CALL_JOURNAL_LINE, jolunza_journal_line(&checked->handle, index, filled.bytes, 1, &filled.count));
+}
+
+/* Calls until memory is refused no more: each time later, and all behind it. */
+static void without_memory(struct checked *checked, uint32_t (*call)(struct checked *, size_t), size_t index)
+{
+    uint32_t code = JOLUNZA_NO_MEMORY;
+
+    for (unsigned granted = 0; code == JOLUNZA_NO_MEMORY; granted++) {
+        untouch_fronts();
+        refuse_after(granted, true);
+        code = call(checked, index);
+        MUST(grant_all() || code != JOLUNZA_NO_MEMORY);
+        MUST(code == JOLUNZA_DONE || are_fronts_untouched());
+    }
+}
+
 static void read_log(struct checked *checked, struct room room)
 {
     const struct model *model = &checked->model;
@@ -731,8 +819,11 @@ static void read_log(struct checked *checked, struct room room)
     same_events(checked, room, room.first < model->log.events ? payload_at(model, room.first) : 0);
     if (room.first < model->log.events)
         same_event(checked, room.first, room);
-    if (room.first < model->log.entries)
+    if (room.first < model->log.entries) {
         same_entry(checked, room.first, room);
+        same_line(checked, room.first, room.bytes);
+        without_memory(checked, call_line, room.first);
+    }
 }
 
 void checked_read(struct checked *checked, struct room room)
@@ -748,6 +839,8 @@ void checked_read(struct checked *checked, struct room room)
     if (!checked->skips_frames && room.first < checked->model.out.count)
         same_frame(checked, room.first, room);
     same_time(checked, room.others);
+    same_head(checked, room.bytes);
+    without_memory(checked, call_head, 0);
     for (uint32_t i = 0; i < checked->model.size; i++)
         if (i != checked->model.me) {
             same_missing(checked, i, room.heads);
@@ -807,6 +900,8 @@ static void closed_readings(jolunza_handle *handle)
     MUST(reached(CALL_WAITING, jolunza_waiting(handle, filled.times)) == JOLUNZA_CLOSED);
     MUST(reached(CALL_WAITS_FOR, jolunza_waits_for(handle, 0, &filled.delayed)) == JOLUNZA_CLOSED);
     MUST(reached(CALL_MISSING, jolunza_missing(handle, 1, filled.ranges, 9, &filled.count)) == JOLUNZA_CLOSED);
+    MUST(reached(CALL_JOURNAL_HEAD, jolunza_journal_head(handle, filled.bytes, 9, &filled.count)) == JOLUNZA_CLOSED);
+    MUST(reached(CALL_JOURNAL_LINE, jolunza_journal_line(handle, 0, filled.bytes, 9, &filled.count)) == JOLUNZA_CLOSED);
 }
 
 void checked_closed(void)
@@ -881,4 +976,123 @@ void checked_restart(struct checked *checked)
     checked->skips_log = model->limit == 0;
     checked_all(checked);
     same(checked);
+}
+
+/* Coming back by a journal. */
+
+/* The library's member comes back, over the one that is open. */
+static uint32_t resume(struct checked *checked, const uint8_t *bytes, size_t length, size_t limit)
+{
+    const uint8_t *given = length <= MOST_GUARDED ? guarded(GUARD_BYTES, bytes, length) : bytes;
+    uint32_t code;
+
+    do {
+        arm(checked);
+        UNTOUCH(filled.journal);
+        code = reached(CALL_RESUME, jolunza_resume(&checked->handle, given, length, limit, &filled.journal));
+        MUST(checked->handle.is_open == (code == JOLUNZA_DONE));
+        MUST(code != JOLUNZA_NO_MEMORY || IS_UNTOUCHED(filled.journal));
+    } while (is_out_of_memory(checked, code));
+    return code;
+}
+
+/* What was filled in is what is told of the journal, or the line at fault, or nothing. */
+static void same_journal(const struct resumed *resumed)
+{
+    const jolunza_journal *told = &filled.journal, *expected = &resumed->journal;
+
+    if (resumed->code == JOLUNZA_DONE) {
+        MUST(told->group == expected->group && told->size == expected->size && told->window == expected->window);
+        MUST(told->me == expected->me && told->entries == expected->entries && told->read == expected->read && told->line == 0);
+        return;
+    }
+    if (resumed->code == JOLUNZA_BAD_LINE || resumed->code == JOLUNZA_NOT_LEGAL) {
+        MUST(told->line == expected->line);
+        UNTOUCH(filled.journal.line);
+    }
+    MUST(IS_UNTOUCHED(filled.journal));
+}
+
+/* The library has answered the code, and so has the plain member to answer. Where both are back they tell the same lines again. */
+static void both_resume(struct checked *checked, uint32_t code, const uint8_t *bytes, size_t length, size_t limit)
+{
+    struct resumed resumed;
+
+    model_close(&checked->model);
+    begin_anew(checked);
+    resumed = text_resume(&checked->model, bytes, length, limit);
+    MUST(code == resumed.code);
+    same_journal(&resumed);
+    if (code != JOLUNZA_DONE)
+        return;
+    begin_text(checked);
+    for (size_t i = 0; i < checked->model.log.entries; i++)
+        note_entry(checked, i);
+    MUST(checked->text.length == resumed.journal.read && are_equal(checked->text.at, bytes, checked->text.length));
+    checked_all(checked);
+    same(checked);
+}
+
+uint32_t checked_resume(struct checked *checked, const uint8_t *bytes, size_t length, size_t limit)
+{
+    uint32_t code = resume(checked, bytes, length, limit);
+
+    both_resume(checked, code, bytes, length, limit);
+    return code;
+}
+
+/* A copy of a text's first bytes. It stands until the next one. */
+static struct buffer *copy_of(const struct buffer *text, size_t length)
+{
+    static struct buffer copy;
+
+    copy.length = 0;
+    append(&copy, text->at, length);
+    return &copy;
+}
+
+/* How many bytes the last line has without its line feed. */
+static size_t last_line(const struct buffer *text)
+{
+    size_t length = 0;
+
+    while (length + 1 < text->length && text->at[text->length - 2 - length] != '\n')
+        length++;
+    return length;
+}
+
+void checked_return(struct checked *checked, size_t torn)
+{
+    struct buffer *text = copy_of(&checked->text, checked->text.length);
+    size_t last = last_line(text), read = text->length;
+
+    for (size_t i = 0; i < lesser(torn, last); i++)
+        append(text, &checked->text.at[read - 1 - last + i], 1);
+    MUST(resume(checked, text->at, text->length, checked->model.limit) == JOLUNZA_DONE);
+    MUST(filled.journal.read == read);
+    checked->loaded = 0;
+    checked->skips_frames = true;
+    checked->skips_log = checked->model.limit == 0;
+    checked_all(checked);
+    same(checked);
+    both_resume(checked, JOLUNZA_DONE, text->at, text->length, checked->model.limit);
+}
+
+void checked_beginning(const struct checked *checked, size_t cut)
+{
+    static struct checked beginning;
+    const struct buffer *text = copy_of(&checked->text, cut % (checked->text.length + 1));
+
+    if (checked_resume(&beginning, text->at, text->length, checked->model.limit) == JOLUNZA_DONE)
+        MUST(beginning.journal.length <= checked->journal.length
+             && are_equal(beginning.journal.at, checked->journal.at, beginning.journal.length));
+    checked_close(&beginning);
+}
+
+void checked_lose(struct checked *checked, size_t before, size_t kept)
+{
+    size_t lost = checked->text.length - before;
+    const struct buffer *text = copy_of(&checked->text, before + (lost == 0 ? 0 : kept % lost));
+
+    MUST(checked_resume(checked, text->at, text->length, checked->model.limit) == JOLUNZA_DONE);
 }

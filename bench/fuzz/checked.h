@@ -7,7 +7,7 @@
 #define CHECKED_H
 
 #include "input.h"
-#include "model.h"
+#include "text.h"
 
 struct checked {
     jolunza_handle handle;
@@ -16,6 +16,7 @@ struct checked {
     uint8_t load[1 << 15];
     size_t events_read, payloads_read, entries_read; /* of what a history keeps: what was compared already */
     struct buffer journal;                           /* all entries: a length, a kind and the frame of each */
+    struct buffer text;                              /* its journal's text, as the library told it line by line */
     bool skips_frames, skips_log;                    /* after a restart those are of the last entry, not of the last call */
     uint32_t turn;                                   /* whose readings are compared first */
     unsigned refuse; /* of the next call: 1 its first allocation, 2 all of them, 3 its second, 4 all from that on; 0 is none */
@@ -59,6 +60,24 @@ void checked_closed(void);
 
 /* The member ends, and comes back by what its entries say that it did; its settings are those that it had. */
 void checked_restart(struct checked *checked);
+
+/*
+ * The member ends, and comes back by the text of its journal, behind which stand at most so many bytes of one more line, torn. It reads
+ * as the one that it was.
+ */
+void checked_return(struct checked *checked, size_t torn);
+
+/* Beside it a member comes back by that text cut at a byte: with the entries of the lines that are whole. It goes no further. */
+void checked_beginning(const struct checked *checked, size_t cut);
+
+/*
+ * The member ends before the lines of its last call were whole: the text had so many bytes before that call, and `kept` counts how many
+ * more are there. It comes back as the one that it was before the call, or before the last of its entries.
+ */
+void checked_lose(struct checked *checked, size_t before, size_t kept);
+
+/* A member comes back by any bytes, or tells why not. The one that was there is gone in either case. */
+uint32_t checked_resume(struct checked *checked, const uint8_t *bytes, size_t length, size_t limit);
 
 /* Compares all events and entries since the member was opened. */
 void checked_all(struct checked *checked);

@@ -1,7 +1,7 @@
 /*
  * A group of members, and between them every frame that was sent: the input says who casts, ticks and asks for help, which frame
- * arrives where, how often or never, who restarts, and what is forged. Forged frames reach one member, the victim. What holds of
- * the others rests on what they get of the victim's frames once it has taken a forged one (docs/FUZZING.md):
+ * arrives where, how often or never, who ends and comes back, and what is forged. Forged frames reach one member, the victim. What
+ * holds of the others rests on what they get of the victim's frames once it has taken a forged one (docs/FUZZING.md):
  *
  *   HONEST     nothing is forged, and the group is a run of the causal machine (past.h);
  *   CUT_OFF    they get none, and are a run of the causal machine;
@@ -370,6 +370,46 @@ static void step_help(uint32_t member, uint32_t of)
         send(member);
 }
 
+/* Coming back. */
+
+/* A call of the member that nobody hears of: nothing is sent, and nobody sees its events. */
+static void call_unheard(uint32_t member, uint8_t how)
+{
+    struct checked *checked = &group.members[member];
+    const struct sent *frame = sent.count > 0 ? &sent.frames[how % sent.count] : NULL;
+
+    if (how % 4 == 0)
+        checked_tick(checked);
+    else if (how % 4 == 1 || frame == NULL)
+        checked_cast(checked, payload_of(member, group.cast[member] + 1, how), how);
+    else
+        checked_receive(checked, bytes_of(frame), frame->length);
+}
+
+/* The member ends in the midst of a call, before its line was whole. It is back as if the call was never made. */
+static void step_lose(uint32_t member, uint8_t how, size_t kept)
+{
+    size_t before = group.members[member].text.length;
+
+    call_unheard(member, how);
+    checked_lose(&group.members[member], before, kept);
+}
+
+/* The member comes back by its calls, or by its journal, at whose end a line may be torn, or without its last call. */
+static void step_back(uint32_t member, uint8_t how, struct input *input)
+{
+    size_t high = take_byte(input), place = 256 * high + take_byte(input);
+
+    if (how % 4 == 0)
+        checked_restart(&group.members[member]);
+    else if (how % 4 == 1)
+        checked_return(&group.members[member], how / 4);
+    else if (how % 4 == 2)
+        checked_beginning(&group.members[member], place);
+    else
+        step_lose(member, how / 4, place);
+}
+
 /* A frame that nobody sent, or that was changed on its way. */
 static size_t forge(struct input *input, uint8_t *bytes)
 {
@@ -584,7 +624,7 @@ static void step(struct input *input)
         group.members[member].refuse = 1 + how % 48;
         break;
     case 14:
-        checked_restart(&group.members[member]);
+        step_back(member, how, input);
         break;
     default:
         step_forge(input);
@@ -596,6 +636,7 @@ static void end(void)
     for (uint32_t i = 0; i < group.size; i++) {
         checked_all(&group.members[i]);
         checked_restart(&group.members[i]);
+        checked_return(&group.members[i], i);
         checked_close(&group.members[i]);
     }
 }

@@ -1,6 +1,6 @@
 /*
  * One member: settings, calls and the bytes that arrive are what the input says. Each answer has to be the plain member's
- * (checked.h). At the end the member comes back by its entries, and goes on as before.
+ * (checked.h). At the end the member comes back by its entries and by its journal, and goes on as before.
  */
 #include <string.h>
 
@@ -179,6 +179,24 @@ static void call_reading(struct input *input)
     checked_read_none(&member, take_member(input, member.model.size));
 }
 
+static void come_back(struct input *input)
+{
+    uint8_t how = take_byte(input);
+    size_t before = member.text.length;
+
+    parts.count = 0;
+    if (how % 4 == 0) {
+        checked_restart(&member);
+    } else if (how % 4 == 1) {
+        checked_return(&member, how / 4);
+    } else if (how % 4 == 2) {
+        checked_beginning(&member, take_number(input));
+    } else {
+        call_made(input);
+        checked_lose(&member, before, how / 4);
+    }
+}
+
 static void call_seldom(struct input *input)
 {
     switch (take_byte(input) % 4) {
@@ -186,8 +204,7 @@ static void call_seldom(struct input *input)
         checked_closed();
         break;
     case 1:
-        checked_restart(&member);
-        parts.count = 0;
+        come_back(input);
         break;
     default:
         member.refuse = 1 + take_byte(input) % 32;
@@ -220,6 +237,7 @@ static void end(void)
 {
     checked_all(&member);
     checked_restart(&member);
+    checked_return(&member, member.model.me);
     for (uint32_t i = 0; i < member.model.size && i < 4; i++)
         checked_help(&member, i);
     checked_tick(&member);

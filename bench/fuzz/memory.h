@@ -9,7 +9,7 @@
 #include <stddef.h>
 #include <stdint.h>
 
-enum { MOST_GUARDED = 1 << 16 };
+enum { MOST_GUARDED = 1 << 20 };
 
 enum guard { GUARD_BYTES, GUARD_LENGTHS, GUARDS };
 

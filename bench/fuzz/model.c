@@ -15,7 +15,7 @@ static void *must_have(void *memory)
     return memory;
 }
 
-static void append(struct buffer *buffer, const void *memory, size_t length)
+void append(struct buffer *buffer, const void *memory, size_t length)
 {
     if (length == 0)
         return;

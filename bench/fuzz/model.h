@@ -16,6 +16,8 @@ struct buffer {
     size_t room;
 };
 
+void append(struct buffer *buffer, const void *memory, size_t length);
+
 /* What was said and done, as jolunza_events and jolunza_entry tell it: heads, and behind one another what they are of. */
 struct log {
     size_t events;

@@ -8,7 +8,7 @@
     JOLUNZA_NO_MEMORY, JOLUNZA_BAD_MEMBER, JOLUNZA_HISTORY_FULL, JOLUNZA_OTHER_GROUP, JOLUNZA_IMPOSSIBLE, JOLUNZA_TOO_FAR, \
         JOLUNZA_MALFORMED, JOLUNZA_OVERLAP
 
-enum { CODE_COUNT = JOLUNZA_BURST_TOO_LONG + 1, MOST_BITS = 20 };
+enum { CODE_COUNT = JOLUNZA_NOT_LEGAL + 1, MOST_BITS = 20 };
 
 static const char *const CALL_NAMES[CALLS] = {
     [CALL_OPEN] = "open",
@@ -34,12 +34,15 @@ static const char *const CALL_NAMES[CALLS] = {
     [CALL_WAITING] = "waiting",
     [CALL_WAITS_FOR] = "waits_for",
     [CALL_MISSING] = "missing",
+    [CALL_RESUME] = "resume",
+    [CALL_JOURNAL_HEAD] = "journal_head",
+    [CALL_JOURNAL_LINE] = "journal_line",
 };
 
 static const char *const CODE_NAMES[CODE_COUNT] = {
-    "DONE",        "CLOSED",     "NO_MEMORY",  "BAD_GROUP",  "BAD_MEMBER", "BAD_LIMIT", "PAYLOAD_TOO_LONG", "WINDOW_FULL",
-    "HISTORY_FULL", "OTHER_GROUP", "IMPOSSIBLE", "TOO_FAR",  "MALFORMED",  "NONE_THERE", "OVERLAP",         "EMPTY_BURST",
-    "BURST_TOO_LONG",
+    "DONE",         "CLOSED",      "NO_MEMORY",  "BAD_GROUP", "BAD_MEMBER", "BAD_LIMIT",  "PAYLOAD_TOO_LONG", "WINDOW_FULL",
+    "HISTORY_FULL", "OTHER_GROUP", "IMPOSSIBLE", "TOO_FAR",   "MALFORMED",  "NONE_THERE", "OVERLAP",          "EMPTY_BURST",
+    "BURST_TOO_LONG", "NO_HEAD",   "BAD_LINE",   "TOO_LONG",  "NOT_LEGAL",
 };
 
 static unsigned long counts[CALLS][CODE_COUNT];
@@ -67,7 +70,7 @@ static uint32_t codes_of(const uint32_t *codes, size_t count)
     return bits;
 }
 
-/* The codes that the header names for the call, as bits; of each but open CLOSED, and DONE of all. */
+/* The codes that the header names for the call, as bits; of each but open and resume CLOSED, and DONE of all. */
 static uint32_t named(enum call call)
 {
     switch (call) {
@@ -90,6 +93,12 @@ static uint32_t named(enum call call)
     case CALL_HELP:
     case CALL_MISSING:
         return CODES(JOLUNZA_BAD_MEMBER, JOLUNZA_NO_MEMORY);
+    case CALL_RESUME:
+        return CODES(JOLUNZA_NO_HEAD, JOLUNZA_BAD_LINE, JOLUNZA_BAD_LIMIT, JOLUNZA_TOO_LONG, JOLUNZA_NOT_LEGAL, JOLUNZA_NO_MEMORY);
+    case CALL_JOURNAL_HEAD:
+        return CODES(JOLUNZA_NO_MEMORY);
+    case CALL_JOURNAL_LINE:
+        return CODES(JOLUNZA_NONE_THERE, JOLUNZA_NO_MEMORY);
     case CALL_STABLE_OF:
     case CALL_ACKNOWLEDGED_BY:
         return CODES(JOLUNZA_BAD_MEMBER);
@@ -105,7 +114,7 @@ static uint32_t named(enum call call)
 
 static bool is_named(enum call call, uint32_t code)
 {
-    uint32_t all = CODES(JOLUNZA_DONE) | (call == CALL_OPEN ? 0 : CODES(JOLUNZA_CLOSED));
+    uint32_t all = CODES(JOLUNZA_DONE) | (call == CALL_OPEN || call == CALL_RESUME ? 0 : CODES(JOLUNZA_CLOSED));
 
     return code < CODE_COUNT && ((named(call) | all) >> code & 1) == 1;
 }

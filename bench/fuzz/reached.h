@@ -28,6 +28,9 @@ enum call {
     CALL_WAITING,
     CALL_WAITS_FOR,
     CALL_MISSING,
+    CALL_RESUME,
+    CALL_JOURNAL_HEAD,
+    CALL_JOURNAL_LINE,
     CALLS
 };
 

@@ -7,7 +7,7 @@ here=$(cd "$(dirname "$0")" && pwd)
 out=${OUT:-$here/out}
 work=$(mktemp -d)
 trap 'rm -rf "$work"' EXIT
-python3 -B "$here/seeds.py" "$work/seeds"
+JOLUNZA_LIB=${LIBRARY:-$here/../../bindings/out} python3 -B "$here/seeds.py" "$work/seeds"
 for target in "$@"; do
     mkdir -p "$out/$target/corpus"
     "$here/build.sh" "$target" "$work/$target"

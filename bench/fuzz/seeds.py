@@ -1,16 +1,21 @@
 #!/usr/bin/env python3
 """Writes what the fuzzers begin with: FOLDER/member, FOLDER/stream and FOLDER/group get an input for each run of the worked examples
-(bindings/rust/tests/worked_examples.txt) and for each stored schedule (schedules/). It speaks of inputs as member.c, stream.c, group.c
-and input.c read them: of rooms and screens, and of numbers that no byte can say, it leaves lines out."""
+(bindings/rust/tests/worked_examples.txt) and for each stored schedule (schedules/), FOLDER/journal the journals that the library's
+members tell in these, whole and damaged. It speaks of inputs as member.c, stream.c, group.c, journal.c and input.c read them: of rooms
+and screens, and of numbers that no byte can say, it leaves lines out. It wants the library for Python (bindings/build.sh)."""
 import pathlib
 import sys
 
 TOP = pathlib.Path(__file__).resolve().parent.parent.parent
+sys.path.insert(0, str(TOP / "bindings/python"))
+import jolunza  # noqa: E402  (found there)
 
 # the calls of member.c and the steps of group.c, by the byte that asks for them
 CAST, BURST, TICK, HELP, RAW, LOAD, ONE_PART, SELDOM = 0, 1, 2, 3, 4, 5, 8, 10
-GROUP_CAST, GROUP_BURST, GROUP_ARRIVE, GROUP_TICK, GROUP_HELP = 0, 2, 3, 10, 12
+GROUP_CAST, GROUP_BURST, GROUP_ARRIVE, GROUP_TICK, GROUP_HELP, GROUP_BACK = 0, 2, 3, 10, 12, 14
 HONEST = 0
+RAW_TEXT, WRITTEN, REFUSES = 0, 1, 2  # how journal.c comes by a text
+LIMIT_ABOVE_ALL = 255
 BYTES_OF_ENDS = 16  # how many bytes stand behind a stream
 
 
@@ -97,6 +102,11 @@ def group_step(words, size):
     return b""
 
 
+def back_again(words, how):
+    """The member of a step ends and comes back, in one of so many ways."""
+    return bytes([GROUP_BACK + 16 * (int(words[1]) % 16), how, how % 3, 37 * how % 256])
+
+
 def group_lead(words, limit_byte, trust):
     size = int(words[3])
     size_byte = 0 if size == 4 else 3 + 4 * (size - 2)
@@ -109,6 +119,9 @@ def schedules_as_inputs():
         steps = b"".join(group_step(words, int(first[3])) for words in lines)
         for limit_byte, trust in [(0, HONEST), (1, HONEST), (1, 1), (0, 2), (200, 3)]:
             yield "group", group_lead(first, limit_byte, trust) + steps
+        for how in range(16):
+            steps = b"".join(group_step(words, int(first[3])) + back_again(words, how) for words in lines)
+            yield "group", group_lead(first, how % 2, HONEST) + steps
 
 
 def loaded_without_memory():
@@ -118,9 +131,108 @@ def loaded_without_memory():
         yield "member", settings(3, 4, 2, 1000) + cast_and_request + bytes([LOAD, 1, 1, SELDOM, 2, refused, ONE_PART, 0])
 
 
+def made(call, *given):
+    """Makes a call that may be refused."""
+    try:
+        call(*given)
+    except jolunza.Refusal:
+        pass
+
+
+def told(member):
+    """The journal that a member with a history tells, line by line."""
+    return member.journal_head() + b"".join(member.journal_line(index) for index in range(member.counts().entries))
+
+
+def journal_of_example(words, calls):
+    """What the member of a worked example tells; nothing where it keeps no history, or is none."""
+    if int(words[9]) == 0:
+        return b""
+    try:
+        member = jolunza.Member(int(words[5]), int(words[3]), int(words[7]), int(words[1]), int(words[9]))
+    except jolunza.Refusal:
+        return b""
+    by_word = {
+        "cast": lambda call: made(member.cast, payload_bytes(call[1])),
+        "burst": lambda call: made(member.cast_burst, [payload_bytes(word) for word in call[1 : call.index("->")]]),
+        "take": lambda call: made(member.receive, payload_bytes(call[1])),
+        "tick": lambda call: made(member.tick),
+    }
+    for call in calls:
+        by_word.get(call[0], lambda call: None)(call)
+    return told(member)
+
+
+def step_of(members, sent, words):
+    """A step of a schedule by the library's members; what it leaves to be sent joins what was sent."""
+    member = members[int(words[1]) % len(members)]
+    if words[0] == "cast":
+        made(member.cast, payload_bytes(words[2]))
+    elif words[0] == "burst":
+        made(member.cast_burst, [payload_bytes(word) for word in words[2:]])
+    elif words[0] == "tick":
+        made(member.tick)
+    elif words[0] == "arrive" and int(words[2]) < len(sent):
+        made(member.receive, sent[int(words[2])])
+    else:
+        return
+    sent.extend(frame.bytes for frame in member.frames())
+
+
+def journals():
+    """Of each worked example and of each member of a stored schedule: what it tells."""
+    for words, calls in examples():
+        yield journal_of_example(words, calls)
+    for script in sorted((TOP / "schedules").glob("*.script")):
+        first, *lines = [line.split() for line in script.read_text().splitlines() if line.strip()]
+        members = [jolunza.Member(int(first[1]), int(first[3]), int(first[5]), me) for me in range(int(first[3]))]
+        sent = []
+        for words in lines:
+            step_of(members, sent, words)
+        yield from map(told, members)
+
+
+def of_another(text):
+    """The journal with another member's number in its head."""
+    head, rest = text.split(b"\n", 1)
+    return head[:-1] + (b"0" if head.endswith(b" 1") else b"1") + b"\n" + rest
+
+
+def damaged(text):
+    """The journal as it is; torn; with a bad line; of another member; with a line too many, too few, or in the place of another."""
+    lines = text.splitlines(keepends=True)
+    yield text
+    yield text[:-1]
+    yield text[: len(text) - len(lines[-1]) // 2]
+    yield text[: len(lines[0]) - 1]
+    yield text + b"tick 1\n"
+    yield of_another(text)
+    yield text + lines[-1]
+    yield b"".join(lines[:1] + lines[2:])
+    yield b"".join(lines[:1] + lines[:0:-1])
+
+
+def journals_as_inputs():
+    """Behind the settings, of which only the limit is read: 1,000, none, 2, or one above all. Of some an allocation is refused."""
+    for text in sorted({text for text in journals() if text}):
+        for number, damage in enumerate(damaged(text)):
+            yield "journal", settings(3, 4, 0, [1000, 0, 2][number % 3]) + bytes([RAW_TEXT]) + damage
+        yield "journal", settings(3, 4, 0, 1000) + bytes([RAW_TEXT + REFUSES, len(text) % 64]) + text
+        yield "journal", settings(3, 4, 0, 0)[:3] + bytes([LIMIT_ABOVE_ALL, RAW_TEXT]) + text
+
+
+def written_journals():
+    """Those that journal.c writes itself: bursts, casts, ticks and frames, changed or not."""
+    for size in [2, 3, 4]:
+        for how in range(16):
+            steps = bytes([how % 8, 20 + how]) + bytes(5 * i * (how + 3) % 256 for i in range(96))
+            yield "journal", settings(size, 8, 0, 1000) + bytes([WRITTEN + 4 * (how % 4), 24]) + steps
+
+
 def main():
     folder = pathlib.Path(sys.argv[1])
-    for number, (target, text) in enumerate([*examples_as_inputs(), *schedules_as_inputs(), *loaded_without_memory()]):
+    inputs = [*examples_as_inputs(), *schedules_as_inputs(), *loaded_without_memory(), *journals_as_inputs(), *written_journals()]
+    for number, (target, text) in enumerate(inputs):
         (folder / target).mkdir(parents=True, exist_ok=True)
         (folder / target / f"seed-{number:03}").write_bytes(text)
 

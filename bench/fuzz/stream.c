@@ -106,6 +106,15 @@ static void come(const uint8_t *bytes, size_t length, bool at_once)
     } while (whole.count == MOST_PARTS);
 }
 
+/* One comes back by its calls, or by its journal with a torn line. */
+static void come_back(uint8_t torn)
+{
+    if (torn % 2 == 0)
+        checked_restart(&loader);
+    else
+        checked_return(&loader, torn);
+}
+
 /* What the members do between two pieces: both the same. */
 static void both(uint8_t byte)
 {
@@ -122,7 +131,7 @@ static void both(uint8_t byte)
         MUST(checked_help(&loader, member) == checked_help(&receiver, member));
         break;
     case 3:
-        checked_restart(&loader);
+        come_back(byte / 8);
         break;
     case 4:
         loader.refuse = 1 + byte / 8;
