@@ -1,6 +1,6 @@
 #!/usr/bin/env bash
 # Makes the library for C, Rust and Python: libjolunza.a, libjolunza.so and pkgconfig/jolunza.pc in bindings/out. The crate is proved
-# first, and so is what it stands on where this machine has not proved it yet: that takes 40 minutes of a processor, else one or two.
+# first, and so is what it stands on where this machine has not proved it yet.
 # JOLUNZA_OVER_GATE=1 takes what it stands on as `rt ci` has just left it in this checkout, where it has.
 # JOLUNZA_ARCHIVE=FILE takes a whole archive that was made otherwise, and proves nothing: for work on the bindings.
 # It wants rt, gcc and ar.

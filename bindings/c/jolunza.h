@@ -68,7 +68,9 @@ enum jolunza_code {
     JOLUNZA_OVERLAP = 14,         /* receive: a part of the burst was received before, and a part was not; drop the frame */
     JOLUNZA_EMPTY_BURST = 15,     /* cast_burst: no payload */
     JOLUNZA_BURST_TOO_LONG = 16,  /* cast_burst: more than 32 payloads */
-    JOLUNZA_NO_HEAD = 17,         /* resume: no line is whole; nothing was written yet: open the member, begin the journal anew */
+    JOLUNZA_NO_HEAD = 17,         /* resume: no line is whole. Where there is nothing, or only a beginning of what journal_head
+                                     gives, nothing was written yet: open the member, begin the journal. Else it is no journal:
+                                     leave it */
     JOLUNZA_BAD_LINE = 18,        /* resume: a whole line is not what must stand there; no crash of a writer made it so */
     JOLUNZA_TOO_LONG = 19,        /* resume: the journal has more entries than the limit of the history */
     JOLUNZA_NOT_LEGAL = 20        /* resume: an entry that no call of the member adds */
@@ -294,13 +296,18 @@ uint32_t jolunza_missing(jolunza_handle *handle, uint32_t member, jolunza_range 
 uint32_t jolunza_resume(jolunza_handle *handle, const uint8_t *bytes, size_t length, size_t history_max,
                         jolunza_journal *journal);
 
-/* The head line of the member's journal with its line feed, as much of it as fits; `length` tells how many bytes it has. */
+/*
+ * The head line of the member's journal with its line feed, as much of it as fits; `length` tells how many bytes it
+ * has. Or NO_MEMORY.
+ */
 uint32_t jolunza_journal_head(jolunza_handle *handle, uint8_t *text, size_t capacity, size_t *length);
 
 /*
  * The line of entry `index`, from 0, with its line feed, as much of it as fits; `length` tells how many bytes it has.
- * After each call that added an entry (counts.entries grew; without a history counts.entries is not 0) write its line, and sync,
- * before the frames are sent and the events handed out. NONE_THERE where there is no such entry, or NO_MEMORY.
+ * NONE_THERE where there is no such entry, or NO_MEMORY.
+ * After each cast, receive and tick that was done write the lines of all entries that it added; jolunza_receive_parts may add
+ * several. They are those from the old counts.entries on; without a history all, 0 to counts.entries - 1, and only until the next
+ * of these calls. Sync before anything of them is sent or shown. help, load and a refused call add none.
  */
 uint32_t jolunza_journal_line(jolunza_handle *handle, size_t index, uint8_t *text, size_t capacity, size_t *length);
 

@@ -60,6 +60,15 @@ class Code(enum.IntEnum):
     TOO_LONG = 19
     NOT_LEGAL = 20
 
+    @classmethod
+    def _missing_(cls, value: object) -> Optional[Code]:
+        """UNKNOWN_ with its number: a later library's. Nothing has changed, and the program goes on."""
+        if not isinstance(value, int) or value < 0:
+            return None
+        unknown = int.__new__(cls, value)
+        unknown._name_, unknown._value_ = f"UNKNOWN_{value}", value
+        return unknown
+
 
 class Kind(enum.IntEnum):
     """What an entry says was done."""
@@ -424,8 +433,9 @@ class Member:
     @classmethod
     def resume(cls, journal: Given, history_max: int = 1_000_000) -> Resumed:
         """The member whose journal these bytes are, as it was after the last whole line: its time, its events, its history, and each frame
-        that it will send. There are no frames, and `events` has all, without a history until the next call. The first of NO_HEAD, after
-        which the journal is to be begun anew, BAD_LINE, BAD_LIMIT, TOO_LONG and NOT_LEGAL that holds is raised."""
+        that it will send. There are no frames, and `events` has all, without a history until the next call. The first of NO_HEAD, BAD_LINE,
+        BAD_LIMIT, TOO_LONG and NOT_LEGAL that holds is raised. After NO_HEAD the journal is to be begun where there is nothing, or only a
+        beginning of what `journal_head` gives; else it is no journal."""
         member, given, read = cls.__new__(cls), _given(journal), jolunza_journal()
         member._prepare(history_max)
         try:
@@ -715,12 +725,17 @@ class Journal:
         self._file = open(path, "a+b", buffering=0)
         try:
             fcntl.flock(self._file, fcntl.LOCK_EX | fcntl.LOCK_NB)
-            self.member = self._opened(settings, history_max)
+            self._member = self._opened(settings, history_max)
             self._sync(path)
         except BaseException:
             self._file.close()
             raise
-        self._written = self.member.counts().entries if self.member.keeps_history else 0
+        self._written = self._member.counts().entries if self._member.keeps_history else 0
+
+    @property
+    def member(self) -> Member:
+        """The member whose journal it is. The entries of no other are written."""
+        return self._member
 
     def __enter__(self) -> Journal:
         return self
@@ -781,7 +796,7 @@ class Journal:
                 raise
 
     def _append(self) -> None:
-        lines, written = self.member._lines(self._written)
+        lines, written = self._member._lines(self._written)
         if lines:
             self._write(lines)
             os.fsync(self._file.fileno())

@@ -444,6 +444,16 @@ class Refusals(Case):
             opened(0)._entry(0, 1)
         self.assertEqual(raised.exception.code, Code.NONE_THERE)
 
+    def test_of_a_later_library(self) -> None:
+        """It may answer what the module has no name for."""
+        member, later = opened(0), max(Code) + 1
+        library = mock.Mock(**{"jolunza_tick.return_value": later})
+        with mock.patch.object(member, "_library", library), self.assertRaises(Refusal) as raised:
+            member.tick()
+        self.assertEqual((raised.exception.code, str(raised.exception)), (later, f"UNKNOWN_{later}"))
+        with self.assertRaises(ValueError):
+            Code(-1)
+
 
 class Loading(Case):
     """Frames that are parts of bytes that were loaded at once."""
@@ -959,6 +969,10 @@ class Comeback(Case):
             Journal(self.path, OWN)
         journal.close()
         Journal(self.path, OWN).close()
+
+    def test_the_entries_of_no_other_member_are_written(self) -> None:
+        with Journal(self.path, OWN) as journal, self.assertRaises(AttributeError):
+            journal.member = opened(2)  # type: ignore[misc]
 
     def test_each_entry_is_written_once(self) -> None:
         for history_max in (100_000, 0):

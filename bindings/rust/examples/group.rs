@@ -20,7 +20,7 @@ impl Network {
         for frame in member.frames() {
             for to in (0..SIZE).filter(|to| *to != me && frame.to.is_none_or(|one| one == *to)) {
                 self.count += 1;
-                if self.count % 3 != 0 {
+                if !self.count.is_multiple_of(3) {
                     self.queue.push_back((to, frame.bytes.to_vec()));
                 }
             }

@@ -3,15 +3,15 @@
 use crate::{Member, Refusal, ResumeFault, Settings};
 use std::error::Error;
 use std::fmt;
-use std::fs::{File, OpenOptions};
+use std::fs::{File, OpenOptions, TryLockError};
 use std::io::{self, Read, Seek, SeekFrom, Write};
 use std::path::Path;
 
 /// What a member did, in a file: an entry is on the disk before anything that follows from it is sent or shown, so that the member
 /// comes back after its process was killed.
 ///
-/// After each call that was done [`append`](Journal::append), and only then send the frames and show the events. One process has the
-/// file at a time, which is for the caller to see to: two that come back by one journal are one member twice.
+/// After each call that was done [`append`](Journal::append), and only then send the frames and show the events. Who opens the file
+/// while another has it is answered `InUse`: two that come back by one journal are one member twice.
 ///
 /// ```
 /// # use jolunza::{Journal, Settings};
@@ -29,7 +29,10 @@ use std::path::Path;
 /// ```
 #[derive(Debug)]
 pub struct Journal {
+    /// Locked as long as it is open.
     file: File,
+    /// Of the member whose journal it is.
+    settings: Settings,
     /// How many entries of the history are written; without one how many of those that were added since the file was opened.
     written: usize,
     fault: Option<JournalFault>,
@@ -38,9 +41,12 @@ pub struct Journal {
 /// Why no member comes back by a file, and none begins it; or why an entry is not in it.
 #[derive(Clone, Copy, Debug, PartialEq, Eq)]
 pub enum JournalFault {
-    /// The file can't be opened, read, cut, written or synced.
+    /// The file can't be opened, locked, read, cut, written or synced.
     File(io::ErrorKind),
-    /// It is the journal of another member, or of another group number, size or window: of these.
+    /// Another has the file open.
+    InUse,
+    /// It is the journal of another member, or of another group number, size or window: of these. To `append` a member
+    /// with another `history_max` is another one too.
     OtherJournal(Settings),
     /// No member comes back by it. It is never `NoHead`, after which the journal is begun.
     NotResumed(ResumeFault),
@@ -48,6 +54,8 @@ pub enum JournalFault {
     Refused(Refusal),
     /// Without a history: between two calls nothing was appended, and the entry of the first of them is lost.
     LeftOut,
+    /// The member has fewer entries than were written: another one wrote them, and this one began anew.
+    FewerEntries,
 }
 
 impl Journal {
@@ -57,6 +65,7 @@ impl Journal {
     /// After a fault the file is as it was, but for its torn line, or what was begun of its head line.
     pub fn open(path: &Path, settings: &Settings) -> Result<(Journal, Member), JournalFault> {
         let mut file = OpenOptions::new().read(true).write(true).create(true).truncate(false).open(path)?;
+        file.try_lock()?;
         let mut bytes = Vec::new();
         file.read_to_end(&mut bytes)?;
         let member = match Member::resume(&bytes, settings.history_max) {
@@ -73,7 +82,7 @@ impl Journal {
         file.sync_data()?;
         sync_folder(path)?;
         let written = if settings.history_max == 0 { 0 } else { member.counts().entries };
-        Ok((Journal { file, written, fault: None }, member))
+        Ok((Journal { file, settings: *settings, written, fault: None }, member))
     }
 
     /// Writes the lines of the entries that are not written yet, which are on the disk when this is done. To be called after each call
@@ -90,8 +99,14 @@ impl Journal {
     }
 
     fn write_new(&mut self, member: &Member) -> Result<(), JournalFault> {
+        if member.settings() != self.settings {
+            return Err(JournalFault::OtherJournal(self.settings));
+        }
         let entries = member.counts().entries;
-        let added = if member.settings().history_max == 0 { member.entered() } else { entries };
+        let added = if self.settings.history_max == 0 { member.entered() } else { entries };
+        if added < self.written {
+            return Err(JournalFault::FewerEntries);
+        }
         let first = (entries + self.written).checked_sub(added).ok_or(JournalFault::LeftOut)?;
         let lines = (first..entries).map(|index| member.journal_line(index)).collect::<Result<String, Refusal>>()?;
         if !lines.is_empty() {
@@ -134,6 +149,15 @@ impl From<io::Error> for JournalFault {
     }
 }
 
+impl From<TryLockError> for JournalFault {
+    fn from(fault: TryLockError) -> JournalFault {
+        match fault {
+            TryLockError::WouldBlock => JournalFault::InUse,
+            TryLockError::Error(fault) => fault.into(),
+        }
+    }
+}
+
 impl From<ResumeFault> for JournalFault {
     fn from(fault: ResumeFault) -> JournalFault {
         JournalFault::NotResumed(fault)
@@ -150,12 +174,15 @@ impl fmt::Display for JournalFault {
     fn fmt(&self, f: &mut fmt::Formatter<'_>) -> fmt::Result {
         match self {
             JournalFault::File(kind) => kind.fmt(f),
-            JournalFault::OtherJournal(Settings { group, size, window, me, .. }) => {
-                write!(f, "the journal is of member {me} of {size}, group {group}, window {window}")
-            }
+            JournalFault::InUse => f.write_str("another has the journal open"),
+            JournalFault::OtherJournal(Settings { group, size, window, me, history_max }) => write!(
+                f,
+                "the journal is of member {me} of {size}, group {group}, window {window}, history_max {history_max}"
+            ),
             JournalFault::NotResumed(fault) => fault.fmt(f),
             JournalFault::Refused(refusal) => refusal.fmt(f),
             JournalFault::LeftOut => f.write_str("an entry is lost: nothing was appended between two calls"),
+            JournalFault::FewerEntries => f.write_str("the member has fewer entries than its journal: it began anew"),
         }
     }
 }
@@ -175,7 +202,7 @@ mod tests {
         let settings = Settings { group: 7, size: 3, window: 4, me: 0, history_max: 100 };
         for settings in [settings, Settings { history_max: 0, ..settings }] {
             let mut member = Member::open(settings).unwrap();
-            let mut journal = Journal { file: device("/dev/full"), written: 0, fault: None };
+            let mut journal = Journal { file: device("/dev/full"), settings, written: 0, fault: None };
             assert_eq!(journal.append(&member), Ok(()));
             member.cast(b"a").unwrap();
             let no_space = io::Error::from_raw_os_error(28).kind();

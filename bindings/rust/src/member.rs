@@ -396,7 +396,7 @@ impl Member {
             answered(copy(text.as_mut_ptr(), text.len(), &mut length))?;
         }
         text.truncate(length);
-        Ok(String::from_utf8(text).expect("a journal is text"))
+        Ok(String::from_utf8(text).expect("a line has ASCII alone"))
     }
 
     /// Without a history: how many entries were added since it was opened or came back.

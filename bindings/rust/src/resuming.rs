@@ -19,7 +19,8 @@ pub struct Resumed {
 /// Why no member came back by a journal: the first of these that holds, or `NoMemory`. Lines are counted from 1, the head line.
 #[derive(Clone, Copy, Debug, PartialEq, Eq, Hash)]
 pub enum ResumeFault {
-    /// No line is whole: nothing was written yet. Open the member, and begin the journal anew.
+    /// No line is whole. Where there is nothing but a beginning of what `journal_head` gives, or nothing at all, nothing was written
+    /// yet: open the member, and begin the journal. Else it is no journal: leave it.
     NoHead,
     /// This line is whole, and is not what must stand there: no crash of a writer made it so.
     BadLine { line: usize },
@@ -31,6 +32,8 @@ pub enum ResumeFault {
     NotLegal { line: usize },
     /// Memory was refused. Try again.
     NoMemory,
+    /// A code that this crate does not know: `libjolunza.a` is a later one.
+    Unknown { code: u32 },
 }
 
 impl ResumeFault {
@@ -43,7 +46,7 @@ impl ResumeFault {
             sys::JOLUNZA_TOO_LONG => ResumeFault::TooLong,
             sys::JOLUNZA_NOT_LEGAL => ResumeFault::NotLegal { line },
             sys::JOLUNZA_NO_MEMORY => ResumeFault::NoMemory,
-            _ => panic!("libjolunza.a answers {code} to a journal, which this crate does not know"),
+            code => ResumeFault::Unknown { code },
         }
     }
 }
@@ -51,14 +54,28 @@ impl ResumeFault {
 impl fmt::Display for ResumeFault {
     fn fmt(&self, f: &mut fmt::Formatter<'_>) -> fmt::Result {
         match self {
-            ResumeFault::NoHead => f.write_str("no line is whole: begin the journal anew"),
+            ResumeFault::NoHead => f.write_str("no line is whole: begin the journal, where nothing was written yet"),
             ResumeFault::BadLine { line } => write!(f, "line {line} is no line of a journal"),
             ResumeFault::BadLimit => f.write_str("a history has at most 16,777,216 entries"),
             ResumeFault::TooLong => f.write_str("the journal has more entries than the history may have"),
             ResumeFault::NotLegal { line } => write!(f, "line {line} tells what no call of the member does"),
             ResumeFault::NoMemory => f.write_str("out of memory: try again"),
+            ResumeFault::Unknown { code } => write!(f, "code {code} of a later library"),
         }
     }
 }
 
 impl Error for ResumeFault {}
+
+#[cfg(test)]
+mod tests {
+    use super::*;
+
+    #[test]
+    fn a_code_of_a_later_library_is_named() {
+        let unknown = ResumeFault::of(sys::JOLUNZA_NOT_LEGAL + 1, 3);
+        assert_eq!(unknown, ResumeFault::Unknown { code: 21 });
+        assert_eq!(unknown.to_string(), "code 21 of a later library");
+        assert_eq!(ResumeFault::of(sys::JOLUNZA_NOT_LEGAL, 3), ResumeFault::NotLegal { line: 3 });
+    }
+}

@@ -51,7 +51,7 @@ impl Group {
         let member = &mut self.members[me as usize];
         let number = member.time()[me as usize] + 1;
         let texts = [number, number + 1].map(|number| format!("{number} of {me}"));
-        let count = if number % 3 == 0 { self.left.min(2) } else { 1 };
+        let count = if number.is_multiple_of(3) { self.left.min(2) } else { 1 };
         let done = match &texts {
             [first, second] if count == 2 => member.cast_burst(&[first.as_bytes(), second.as_bytes()]),
             [first, _] => member.cast(first.as_bytes()),

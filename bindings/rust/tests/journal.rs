@@ -97,7 +97,7 @@ fn asks(member: &mut Member) -> Vec<(Option<u32>, Vec<u8>)> {
 
 struct Group {
     place: Place,
-    journal: Journal,
+    journal: Option<Journal>,
     members: Vec<Member>,
     network: Network,
     dice: Dice,
@@ -108,7 +108,7 @@ impl Group {
         let place = Place::new(name);
         let (journal, killed) = place.open(&settings(KILLED, history_max)).unwrap();
         let members = vec![open(0, history_max), killed, open(2, HISTORY_MAX)];
-        Group { place, journal, members, network: Network::new(SIZE, 3), dice: Dice(3) }
+        Group { place, journal: Some(journal), members, network: Network::new(SIZE, 3), dice: Dice(3) }
     }
 
     /// A call of a member, whose entry is written before its frames are sent.
@@ -116,7 +116,7 @@ impl Group {
         let member = &mut self.members[me as usize];
         let done = call(member);
         if me == KILLED {
-            self.journal.append(member).unwrap();
+            self.journal.as_mut().unwrap().append(member).unwrap();
         }
         match done {
             Ok(()) => member.frames().for_each(|frame| self.network.send(me, frame)),
@@ -150,6 +150,7 @@ impl Group {
 
     /// The member's process ends in the midst of a line, and another one goes on.
     fn come_back(&mut self, part: &str) {
+        self.journal = None;
         let whole = self.place.has();
         self.place.tear(part);
         let settings = self.members[KILLED as usize].settings();
@@ -159,7 +160,7 @@ impl Group {
         assert_eq!(reading(&mut member), reading(before));
         assert_eq!(member.frames().len(), 0);
         assert_eq!(asks(&mut member), asks(before));
-        (self.journal, self.members[KILLED as usize]) = (journal, member);
+        (self.journal, self.members[KILLED as usize]) = (Some(journal), member);
     }
 }
 
@@ -199,6 +200,7 @@ fn two_crashes_in_a_row_lose_no_whole_line() {
     let (mut journal, mut member) = place.open(&settings).unwrap();
     member.tick().unwrap();
     journal.append(&member).unwrap();
+    drop(journal);
     place.tear("cast 11070");
     let (_, member) = place.open(&settings).unwrap();
     assert_eq!(member.counts().entries, 1);
@@ -206,6 +208,7 @@ fn two_crashes_in_a_row_lose_no_whole_line() {
     let (mut journal, mut member) = place.open(&settings).unwrap();
     member.cast(b"a").unwrap();
     journal.append(&member).unwrap();
+    drop(journal);
     assert_eq!(place.has(), format!("{HEAD}{TICK}cast 11070101000161\n"));
     let (_, mut member) = place.open(&settings).unwrap();
     assert_eq!(member.new_events().map(|event| event.payload.to_vec()).collect::<Vec<_>>(), [b"a"]);
@@ -284,7 +287,65 @@ fn the_journal_of_another_member_is_refused() {
         assert_eq!(place.has(), format!("{HEAD}ca"));
     }
     let fault = place.open(&others[0]).unwrap_err();
-    assert_eq!(fault.to_string(), "the journal is of member 1 of 3, group 7, window 8");
+    let told = format!("the journal is of member 1 of 3, group 7, window 8, history_max {HISTORY_MAX}");
+    assert_eq!(fault.to_string(), told);
+}
+
+/// A killed process has it no more: the lock is the open file's.
+#[test]
+fn nobody_else_has_the_journal() {
+    let place = Place::new("lock");
+    let settings = settings(KILLED, HISTORY_MAX);
+    let (journal, _) = place.open(&settings).unwrap();
+    place.tear("ca");
+    let fault = place.open(&settings).unwrap_err();
+    assert_eq!((fault, fault.to_string()), (JournalFault::InUse, "another has the journal open".into()));
+    assert_eq!(place.has(), format!("{HEAD}ca"));
+    drop(journal);
+    place.open(&settings).unwrap();
+    assert_eq!(place.has(), HEAD);
+}
+
+#[test]
+fn the_entries_of_another_member_are_refused() {
+    for history_max in [HISTORY_MAX, 0] {
+        let own = settings(KILLED, history_max);
+        let others = [
+            Settings { group: 8, ..own },
+            Settings { size: 4, ..own },
+            Settings { window: 9, ..own },
+            Settings { me: 2, ..own },
+            Settings { history_max: 5, ..own },
+        ];
+        for other in others {
+            let place = Place::new("not-own");
+            let (mut journal, member) = place.open(&own).unwrap();
+            let mut other = Member::open(other).unwrap();
+            other.tick().unwrap();
+            assert_eq!(journal.append(&other), Err(JournalFault::OtherJournal(own)));
+            assert_eq!(journal.append(&member), Err(JournalFault::OtherJournal(own)), "it stays");
+            assert_eq!(place.has(), HEAD);
+        }
+    }
+}
+
+#[test]
+fn a_member_that_began_anew_is_no_more_that_of_the_journal() {
+    for history_max in [HISTORY_MAX, 0] {
+        let place = Place::new("anew");
+        let (mut journal, mut member) = place.open(&settings(KILLED, history_max)).unwrap();
+        for payload in [b"a", b"b"] {
+            member.cast(payload).unwrap();
+            journal.append(&member).unwrap();
+        }
+        let written = place.has();
+        let mut anew = open(KILLED, history_max);
+        anew.cast(b"c").unwrap();
+        let fault = journal.append(&anew).unwrap_err();
+        assert_eq!(fault, JournalFault::FewerEntries);
+        assert_eq!(fault.to_string(), "the member has fewer entries than its journal: it began anew");
+        assert_eq!(place.has(), written);
+    }
 }
 
 #[test]
@@ -370,6 +431,7 @@ fn without_a_history_the_entries_of_each_call_are_written_once() {
         member.load(&frames.concat())?;
         member.receive_parts(0, &[7, 7]).map(drop)
     });
+    drop(journal);
     let (mut journal, mut back) = place.open(&settings).unwrap();
     assert_eq!(reading(&mut back), reading(&mut member));
     assert_eq!(back.counts().entries, 4);

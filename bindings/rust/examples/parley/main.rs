@@ -76,7 +76,7 @@ fn parley(options: Options) -> io::Result<()> {
     Ok(())
 }
 
-/// The socket comes first: it also keeps a second process from the files.
+/// The socket comes first. The lock of the notes keeps a second process from the files.
 fn begin(options: Options) -> io::Result<Session> {
     let Options { settings, listen, peers, journal: path, chance } = options;
     let network = Network::open(listen, peers, settings.me, chance);

@@ -3,8 +3,8 @@
 
 use crate::lines::is_room;
 use crate::words::decimal;
-use jolunza::{Journal, Member, Settings};
-use std::fs::{File, OpenOptions};
+use jolunza::{Journal, JournalFault, Member, Settings};
+use std::fs::{File, OpenOptions, TryLockError};
 use std::io::{self, Read, Seek, SeekFrom, Write};
 use std::path::{Path, PathBuf};
 
@@ -37,7 +37,7 @@ impl Note {
     }
 }
 
-/// Notes that are open at their end.
+/// Notes that are open at their end, and locked: one process has them.
 #[derive(Debug)]
 pub struct Notes {
     path: PathBuf,
@@ -54,6 +54,7 @@ impl Notes {
 
     fn read(path: &Path, settings: &Settings) -> io::Result<(Notes, Vec<Note>)> {
         let mut file = OpenOptions::new().read(true).write(true).create(true).truncate(false).open(path)?;
+        file.try_lock().map_err(in_use)?;
         let mut text = String::new();
         file.read_to_string(&mut text)?;
         let found = notes_in(&text, settings).map_err(|fault| io::Error::new(io::ErrorKind::InvalidData, fault))?;
@@ -91,7 +92,15 @@ pub fn open_member(notes: Option<&Notes>, settings: &Settings) -> io::Result<(Op
     let path = notes.journal(settings.group);
     match Journal::open(&path, settings) {
         Ok((journal, member)) => Ok((Some(journal), member)),
+        Err(fault @ JournalFault::InUse) => Err(io::Error::other(format!("InUse: {}: {fault}", path.display()))),
         Err(fault) => Err(io::Error::other(format!("BadJournal: {}: {fault}", path.display()))),
+    }
+}
+
+fn in_use(fault: TryLockError) -> io::Error {
+    match fault {
+        TryLockError::WouldBlock => io::Error::other("InUse: another has the notes open"),
+        TryLockError::Error(fault) => fault,
     }
 }
 
@@ -156,6 +165,7 @@ mod tests {
         assert_eq!(found, some_notes()[..1]);
         notes.write(&some_notes()[1..3]).unwrap();
         notes.write(&some_notes()[3..]).unwrap();
+        drop(notes);
         assert_eq!(Notes::open(&path, &SETTINGS).unwrap().1, some_notes());
         fs::remove_file(&path).unwrap();
     }
@@ -165,6 +175,7 @@ mod tests {
         let path = file("cut");
         let (mut notes, _) = Notes::open(&path, &SETTINGS).unwrap();
         notes.write(&some_notes()[1..]).unwrap();
+        drop(notes);
         let whole = fs::read_to_string(&path).unwrap();
         for length in 0..whole.len() {
             fs::write(&path, &whole[..length]).unwrap();
@@ -174,6 +185,17 @@ mod tests {
             notes.write(&some_notes()[found.len()..]).unwrap();
             assert_eq!(fs::read_to_string(&path).unwrap(), whole, "{length}");
         }
+        fs::remove_file(&path).unwrap();
+    }
+
+    #[test]
+    fn nobody_else_has_the_notes() {
+        let path = file("lock");
+        let (notes, _) = Notes::open(&path, &SETTINGS).unwrap();
+        let fault = Notes::open(&path, &SETTINGS).unwrap_err().to_string();
+        assert!(fault.ends_with(": InUse: another has the notes open"), "{fault}");
+        drop(notes);
+        Notes::open(&path, &SETTINGS).unwrap();
         fs::remove_file(&path).unwrap();
     }
 
@@ -210,6 +232,18 @@ mod tests {
             assert_eq!(fs::read_to_string(&journal).unwrap(), head);
             fs::remove_file(&journal).unwrap();
         }
+        fs::remove_file(&path).unwrap();
+    }
+
+    #[test]
+    fn nobody_else_has_a_journal() {
+        let path = file("journal-lock");
+        let (notes, _) = Notes::open(&path, &SETTINGS).unwrap();
+        let _held = open_member(Some(&notes), &SETTINGS).unwrap();
+        let fault = open_member(Some(&notes), &SETTINGS).unwrap_err().to_string();
+        let journal = format!("{}.7", path.display());
+        assert_eq!(fault, format!("InUse: {journal}: another has the journal open"));
+        fs::remove_file(&journal).unwrap();
         fs::remove_file(&path).unwrap();
     }
 }
