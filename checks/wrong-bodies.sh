@@ -44,7 +44,8 @@ tests_of() {
         cb_varint | cb_frames | cb_times | cb_diffs | cb_delay) echo tests_base ;;
         cb_member) echo tests_member cb_member ;;
         cb_reference) echo tests_member ;;
-        cb_causality | cb_history | cb_rooms | cb_world | cb_trace) echo tests_group ;;
+        cb_history) echo tests_group cb_lock ;;
+        cb_causality | cb_rooms | cb_world | cb_trace) echo tests_group ;;
         cb_journal) echo tests_journal ;;
         cb_lines | cb_replay) echo tests_journal tests_group ;;
         cb_handle) echo jolunza ;;
