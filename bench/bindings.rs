@@ -76,8 +76,6 @@ impl Network {
 
 struct Run {
     members: Vec<Member>,
-    /// How many events of each member were read, own casts not looked at.
-    seen: Vec<usize>,
     network: Network,
     tally: Tally,
     window: u32,
@@ -87,48 +85,37 @@ struct Run {
 }
 
 impl Run {
-    /// Sends the frames of the member's last call.
-    fn send_frames(&mut self, me: usize) {
-        for frame in self.members[me].frames() {
-            self.network.send(me, frame);
-        }
-    }
-
     fn take_all(&mut self, me: usize, inbox: &mut Inbox) -> Result<(), Refusal> {
         mem::swap(inbox, &mut self.network.inboxes[me]);
         self.members[me].load(&inbox.bytes)?;
         let (mut first, mut lengths) = (0, &inbox.lengths[..]);
         while !lengths.is_empty() {
-            let (taken, rest) = lengths.split_at(self.members[me].receive_parts(first, lengths)?);
+            let (count, mut output) = self.members[me].receive_parts(first, lengths)?;
+            let (taken, rest) = lengths.split_at(count);
             first += taken.iter().sum::<usize>();
             lengths = rest;
-            self.send_frames(me);
+            output.frames().for_each(|frame| self.network.send(me, frame));
+            output.events().for_each(|event| self.tally.add(me as u32, &event));
         }
         inbox.clear();
-        let events = self.members[me].events(self.seen[me]..);
-        self.seen[me] += events.len();
-        for event in events {
-            self.tally.add(me as u32, &event);
-        }
         Ok(())
     }
 
-    /// The member casts as often as a fourth of the window, as long as it may.
+    /// The member casts as often as a fourth of the window, as long as it may. Its own casts are not looked at.
     fn cast_some(&mut self, me: usize) {
         for _ in 0..(self.window / 4).max(1) {
-            if self.made == self.casts || self.members[me].cast(&self.payload).is_err() {
+            if self.made == self.casts {
                 return;
             }
+            let Ok(mut output) = self.members[me].cast(&self.payload) else { return };
             self.made += 1;
-            self.seen[me] += 1;
-            self.send_frames(me);
+            output.frames().for_each(|frame| self.network.send(me, frame));
         }
     }
 
     fn tick_all(&mut self) -> Result<(), Refusal> {
-        for me in 0..self.members.len() {
-            self.members[me].tick()?;
-            self.send_frames(me);
+        for (me, member) in self.members.iter_mut().enumerate() {
+            member.tick()?.frames().for_each(|frame| self.network.send(me, frame));
         }
         Ok(())
     }
@@ -151,10 +138,9 @@ fn main() -> Result<(), Refusal> {
     let &[size, window, payload, casts] = &words[..] else {
         panic!("bindings SIZE WINDOW PAYLOAD CASTS");
     };
-    let open = |me| Member::open(Settings { group: 7, size, window, me, history_max: LONGEST_HISTORY });
+    let open = |me| Member::open_with_history(Settings { group: 7, size, window, me }, LONGEST_HISTORY);
     let mut run = Run {
         members: (0..size).map(open).collect::<Result<_, _>>()?,
-        seen: vec![0; size as usize],
         network: Network { inboxes: vec![Inbox::default(); size as usize] },
         tally: Tally { deliveries: 0, digest: 0xcbf2_9ce4_8422_2325 },
         window,

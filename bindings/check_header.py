@@ -1,7 +1,7 @@
 #!/usr/bin/env python3
 """Compares bindings/c/jolunza.h with the crates that define what it declares, and with the wrappers for Rust and Python, which declare
-it once more: names of functions, structures and codes, names, order and types of parameters and fields, and numbers. No compiler and
-no proof does that. Prints a line for each difference, and ends with 1 where there is one.
+it once more: names of functions, structures and codes, names, order and types of parameters and fields, numbers, and the sentence of
+each code. No compiler and no proof does that. Prints a line for each difference, and ends with 1 where there is one.
 
     check_header.py             looks at the files beside it; TOP=FOLDER at those of another copy
     check_header.py LIBRARY     compares the functions with what this shared object exports too
@@ -16,20 +16,23 @@ import sys
 from typing import NamedTuple
 
 TOP = os.environ.get("TOP") or os.path.dirname(os.path.dirname(os.path.abspath(__file__)))
-HEADER, BUILD = "bindings/c/jolunza.h", "bindings/build.sh"
-RUST, PYTHON = "bindings/rust/src/sys.rs", "bindings/python/jolunza.py"
+HEADER, BUILD, RELEASE = "bindings/c/jolunza.h", "bindings/build.sh", "bindings/VERSION"
+RUST, PYTHON, RUST_TEXTS = "bindings/rust/src/sys.rs", "bindings/python/jolunza.py", "bindings/rust/src/refusal.rs"
 EXPORTS, CRATES = "crates/jolunza/src/lib.rt", ("jolunza", "cb_handle")
 LIMITS = {"LONGEST_PAYLOAD": "crates/cb_frames/src/frame.rt", "LONGEST_FRAME": "crates/cb_frames/src/frame.rt",
           "MOST_MEMBERS": "crates/cb_times/src/group.rt", "MOST_MESSAGES": "crates/cb_frames/src/frame.rt"}
+# The longest line follows from these numbers, too.
+OF_LINES = {"WIDEST_WINDOW": "crates/cb_times/src/group.rt", "LAST_NUMBER": "crates/cb_frames/src/frame.rt"}
 
 
 class Said(NamedTuple):
-    """What a file says: numbers by name; of a structure its fields; of a function its result, with no name, and its parameters. Fields
-    and parameters are pairs of a name and a type, which is spelled as Rust spells it."""
+    """What a file says: numbers by name; of a structure its fields; of a function its result, with no name, and its parameters; of a code
+    its sentence. Fields and parameters are pairs of a name and a type, which is spelled as Rust spells it."""
 
     numbers: dict
     structures: dict
     functions: dict
+    texts: dict
 
 
 def read(path):
@@ -70,7 +73,16 @@ def of_header():
             name: [("", C_TYPES.get(result, result)), *pairs_in(parameters, ",", c_pair)]
             for result, name, parameters in re.findall(r"^(\w+) (jolunza_\w+)\((.*?)\);", text, re.S | re.M)
         },
+        dict(re.findall(r'case (JOLUNZA_\w+): return "(.*?)";', text)),
     )
+
+
+def look_at_texts(said):
+    """Each code has a sentence, and no two have the same."""
+    codes = re.search(r"enum jolunza_code \{(.*?)\}", without_comments(read(HEADER)), re.S)[1]
+    found = [f"{HEADER}: {name} has no sentence" for name in re.findall(r"JOLUNZA_\w+", codes) if name not in said.texts]
+    several = {text for text in said.texts.values() if list(said.texts.values()).count(text) > 1}
+    return found + [f"{HEADER}: two codes have the sentence: {text}" for text in sorted(several)]
 
 
 # ---- the wrapper for Rust
@@ -89,6 +101,7 @@ def of_rust():
             name: [("", result or "void"), *pairs_in(parameters, ",", rust_pair)]
             for name, parameters, result in re.findall(r"pub fn (jolunza_\w+)\((.*?)\)(?:\s+-> (\w+))?;", text, re.S)
         },
+        dict(re.findall(r'sys::(JOLUNZA_\w+) => (?:\{\s*)?"(.*?)"', without_comments(read(RUST_TEXTS)))),
     )
 
 
@@ -117,10 +130,12 @@ def of_python():
     sys.modules[spec.name] = module
     spec.loader.exec_module(module)
     structures = [it for it in vars(module).values() if isinstance(it, type) and issubclass(it, ctypes.Structure)]
+    limits = [it for it in [*LIMITS, "LONGEST_LINE"] if hasattr(module, it)]
     return Said(
-        {f"JOLUNZA_{it.name}": it.value for it in [*module.Code, *module.Kind]} | {f"JOLUNZA_{it}": getattr(module, it) for it in LIMITS},
+        {f"JOLUNZA_{it.name}": it.value for it in [*module.Code, *module.Kind]} | {f"JOLUNZA_{it}": getattr(module, it) for it in limits},
         {it.__name__: python_pairs(it._fields_) for it in structures if hasattr(it, "_fields_")},
         {name: [("", python_type(result)), *python_pairs(pairs)] for name, (result, pairs) in module.FUNCTIONS.items()},
+        {f"JOLUNZA_{code.name}": text for code, text in getattr(module, "TEXTS", {}).items()},
     )
 
 
@@ -150,6 +165,18 @@ def rattle_pairs(text):
     return found
 
 
+def number(name, path):
+    return numbers_in(rf"pub const ({name}): \w+ = ([\d_]+);", read(path))[f"JOLUNZA_{name}"]
+
+
+def longest_line(limits):
+    """How many bytes the longest line of a journal has, with its line feed: that of member 0, when the longest frame delivers a whole
+    window of each other member, and each message's number has as many digits as it can have."""
+    window, last = (number(name, path) for name, path in OF_LINES.items())
+    names = window * sum(len(f" {sender}.{last}") for sender in range(1, limits["JOLUNZA_MOST_MEMBERS"]))
+    return len("arrive ") + 2 * limits["JOLUNZA_LONGEST_FRAME"] + names + len("\n")
+
+
 def of_crates():
     sources = [without_comments(read(os.path.relpath(it, TOP))) for crate in CRATES for it in sorted(glob.glob(f"{TOP}/crates/{crate}/src/*.rt"))]
     numbers, structures = {}, {}
@@ -158,9 +185,11 @@ def of_crates():
         for name, fields in re.findall(r"#\[repr\(C\)\][^{]*?pub struct (\w+) \{(.*?)^\}", text, re.S | re.M):
             real = "\n".join(line for line in fields.splitlines() if "ghost " not in line)
             structures[c_name(name)] = [(it, rattle_type(kind)) for it, kind in re.findall(r"(\w+): ([^,\n]+),", real)]
-    limits = {f"JOLUNZA_{name}": numbers_in(rf"pub const ({name}): \w+ = ([\d_]+);", read(path))[f"JOLUNZA_{name}"] for name, path in LIMITS.items()}
+    limits = {f"JOLUNZA_{name}": number(name, path) for name, path in LIMITS.items()}
+    limits["JOLUNZA_LONGEST_LINE"] = longest_line(limits)
     exports = re.findall(r'pub extern "C" fn (\w+)\((.*?)\)(?: -> (\w+))?', without_comments(read(EXPORTS)), re.S)
-    return Said(numbers | limits, structures, {name: [("", result or "void"), *rattle_pairs(pairs)] for name, pairs, result in exports})
+    functions = {name: [("", result or "void"), *rattle_pairs(pairs)] for name, pairs, result in exports}
+    return Said(numbers | limits, structures, functions, None)
 
 
 # ---- the library
@@ -189,7 +218,7 @@ def differences(path, what, of_header, of_path):
     found += [f"{path}: {what} {name} is not in the header" for name in of_path if name not in of_header]
     for name in of_header.keys() & of_path.keys():
         one, other = of_header[name], of_path[name]
-        if what == "number":
+        if what in ("number", "sentence of"):
             if one != other:
                 found.append(f"{path}: {name} is {other}, and {one} in the header")
         elif len(one) != len(other) or not all(map(same_pair, one, other)):
@@ -198,16 +227,19 @@ def differences(path, what, of_header, of_path):
 
 
 def look_at_version(version):
-    wanted = [f"JOLUNZA_{version} {{", f"soname,libjolunza.so.{version} ", f"Version: {version}\n"]
-    return [f"{BUILD}: the version is another than {version}" for it in wanted if it not in read(BUILD)]
+    text = read(BUILD)
+    is_in = {BUILD: f"JOLUNZA_{version} {{" in text and f"soname,libjolunza.so.{version} " in text,
+             RELEASE: read(RELEASE).startswith(f"{version}.")}
+    return [f"{path}: the version is another than {version}" for path, found in is_in.items() if not found]
 
 
 def main(libraries):
     said = of_header()
-    found = look_at_version(said.numbers.pop("JOLUNZA_VERSION"))
+    found = look_at_version(said.numbers.pop("JOLUNZA_VERSION")) + look_at_texts(said)
     for path, other in [(EXPORTS, of_crates()), (RUST, of_rust()), (PYTHON, of_python())]:
-        for what, place in [("number", 0), ("structure", 1), ("function", 2)]:
-            found += differences(path, what, said[place], other[place])
+        for what, place in [("number", 0), ("structure", 1), ("function", 2), ("sentence of", 3)]:
+            if other[place] is not None:
+                found += differences(path, what, said[place], other[place])
     for library in libraries:
         found += look_at_library(library, said.functions)
     print(*found, sep="\n", end="\n" if found else "")

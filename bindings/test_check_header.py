@@ -8,9 +8,10 @@ import unittest
 from unittest import mock
 
 import check_header
-from check_header import BUILD, CRATES, EXPORTS, HEADER, LIMITS, PYTHON, RUST, TOP
+from check_header import BUILD, CRATES, EXPORTS, HEADER, LIMITS, OF_LINES, PYTHON, RELEASE, RUST, RUST_TEXTS, TOP
 
 CODES, ROWS = "crates/jolunza/src/code.rt", "crates/cb_handle/src/rows.rt"
+FRAMES, GROUPS = "crates/cb_frames/src/frame.rt", "crates/cb_times/src/group.rt"
 
 # The file, a text of it, what stands there instead, and what has to be said.
 CHANGES = [
@@ -20,6 +21,11 @@ CHANGES = [
     (HEADER, "JOLUNZA_LONGEST_FRAME 1456", "JOLUNZA_LONGEST_FRAME 1455", "JOLUNZA_LONGEST_FRAME"),
     (HEADER, "JOLUNZA_MOST_MESSAGES 32", "JOLUNZA_MOST_MESSAGES 33", "JOLUNZA_MOST_MESSAGES"),
     (HEADER, "JOLUNZA_BURST_TOO_LONG = 16", "JOLUNZA_BURST_TOO_LONG = 17", "JOLUNZA_BURST_TOO_LONG"),
+    (HEADER, "JOLUNZA_LONGEST_LINE 226408", "JOLUNZA_LONGEST_LINE 226407", "JOLUNZA_LONGEST_LINE"),
+    (HEADER, "size_t length, uint32_t *group, uint32_t *member);", "size_t length, uint32_t *member, uint32_t *group);", "jolunza_sender"),
+    (HEADER, 'return "the bytes are no frame: drop them"', 'return "the bytes are no frame"', "JOLUNZA_MALFORMED is the bytes are no frame: drop them"),
+    (HEADER, 'case JOLUNZA_TOO_FAR: return', 'case JOLUNZA_TOO_FAR - 20: return', "JOLUNZA_TOO_FAR has no sentence"),
+    (HEADER, 'return "done"', 'return "the handle holds no member"', "two codes have the sentence"),
     (HEADER, "const size_t *lengths, size_t count);", "size_t count, const size_t *lengths);", "jolunza_cast_burst"),
     (HEADER, "JOLUNZA_VERSION 1", "JOLUNZA_VERSION 2", "the version"),
     (HEADER, "bool is_repeat;", "uint8_t is_repeat;", "jolunza_received"),
@@ -35,6 +41,8 @@ CHANGES = [
     (RUST, "pub is_own: bool,\n    pub sender: u32,", "pub sender: u32,\n    pub is_own: bool,", "jolunza_event_head"),
     (RUST, "pub fn jolunza_close(handle: *mut jolunza_handle);", "", "function jolunza_close"),
     (RUST, "payload: *const u8, length: usize", "length: usize, payload: *const u8", "jolunza_cast"),
+    (RUST_TEXTS, '"the frame is of another group: drop it"', '"the frame is of another group"', "JOLUNZA_OTHER_GROUP"),
+    (PYTHON, '"the frame is of another group: drop it"', '"the frame is of another group"', "JOLUNZA_OTHER_GROUP"),
     (PYTHON, "OTHER_GROUP = 9", "OTHER_GROUP = 90", "JOLUNZA_OTHER_GROUP"),
     (PYTHON, "ARRIVE = 1", "ARRIVE = 4", "JOLUNZA_ARRIVE"),
     (PYTHON, "MOST_MEMBERS = 64", "MOST_MEMBERS = 65", "JOLUNZA_MOST_MEMBERS"),
@@ -49,12 +57,15 @@ CHANGES = [
     (ROWS, "pub first: u32,", "pub first: u64,", "jolunza_range"),
     (CODES, "pub const OVERLAP: u32 = 14;", "", "JOLUNZA_OVERLAP"),
     (CODES, "pub const WINDOW_FULL: u32 = 7;", "pub const WINDOW_FULL: u32 = 8;", "JOLUNZA_WINDOW_FULL"),
+    (FRAMES, "LAST_NUMBER: u32 = 4_294_967_295;", "LAST_NUMBER: u32 = 429_496_729;", "JOLUNZA_LONGEST_LINE"),
+    (GROUPS, "WIDEST_WINDOW: u32 = 256;", "WIDEST_WINDOW: u32 = 255;", "JOLUNZA_LONGEST_LINE"),
     (BUILD, "JOLUNZA_1 {", "JOLUNZA_2 {", "the version"),
+    (RELEASE, "1.", "2.", "the version"),
 ]
 
 
 def copy_to(folder):
-    for path in [HEADER, RUST, PYTHON, BUILD, *LIMITS.values()]:
+    for path in [HEADER, RUST, RUST_TEXTS, PYTHON, BUILD, RELEASE, *LIMITS.values(), *OF_LINES.values()]:
         os.makedirs(os.path.dirname(os.path.join(folder, path)), exist_ok=True)
         shutil.copy(os.path.join(TOP, path), os.path.join(folder, path))
     for crate in CRATES:

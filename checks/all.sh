@@ -1,6 +1,6 @@
 #!/usr/bin/env bash
-# All that has to pass: the gate (`rt ci`), and then the library and what stands over it (bindings/check.sh). Ends with another status
-# than 0 where either fails. The last line counts what passed and failed in both.
+# All that has to pass: the gate (`rt ci`), then the library and what uses it (bindings/check.sh), and then the quickest of the scripts that
+# refuse memory. Ends with another status than 0 where one fails. The last line counts what passed and failed in all three.
 set -u -o pipefail
 cd "$(dirname "$0")/.." || exit 2
 work=$(mktemp -d)
@@ -37,5 +37,6 @@ add rt ci
 # what the gate has just proved need not be proved once more
 export JOLUNZA_OVER_GATE=1
 add bindings/check.sh
+add checks/refuse-rooms.sh
 echo "$passed passed, $failed failed"
 [ "$failed" = 0 ]

@@ -1,9 +1,9 @@
 #!/usr/bin/env bash
 # Looks at the pages: ends with 1, and a line for each fault, where
 #   - a line of README.md or docs/GUIDE.md has more than 120 characters, or a paragraph of either more than five lines; a line of text of any
-#     page in docs/ but that of the mutants has more than 120; README.md more than 150 lines, docs/PERFORMANCE.md more than 120;
+#     page in docs/ but that of the mutants has more than 120; README.md or docs/PERFORMANCE.md more than 120 lines;
 #   - a page has a word that was exchanged for a better one;
-#   - a measured figure of the README or the guide does not stand in docs/PERFORMANCE.md;
+#   - a measured figure of the guide does not stand in docs/PERFORMANCE.md;
 #   - a link leads nowhere, to a file or to a heading, or a comment or script names a page of docs/ that is not there;
 #   - a code block differs from the text that it shows, or a fenced block is not closed;
 #   - docs/WRONG_BODIES.md and the mutants differ: an edit has no row or two, a row no edit, or the row stands under the wrong heading; or the
@@ -25,7 +25,7 @@ import concurrent.futures, os, re, shutil, subprocess, sys, tempfile, time
 
 top, what, jobs = sys.argv[1], sys.argv[2], int(sys.argv[3])
 NARROW = ["README.md", "docs/GUIDE.md"]
-MOST_LINES = {"README.md": 150, "docs/PERFORMANCE.md": 120}
+MOST_LINES = {"README.md": 120, "docs/PERFORMANCE.md": 120}
 WIDE = ["docs/WRONG_BODIES.md", "schedules/README.md"]
 OLD_WORDS = r"\b(puts? out|lets? go of|told|(?:seen|shown) twice|beside the gate|by turns)\b"
 RUN = ["README.md", "docs/GUIDE.md", "docs/PROGRAM.md"]
@@ -291,7 +291,6 @@ for page in (name for name in names if name.endswith(".md")):
     if page in RUN:
         todo.extend(examples(page, text))
 look_at_mutants("docs/WRONG_BODIES.md")
-look_at_figures("README.md", "## Speed")
 look_at_figures("docs/GUIDE.md", "## Memory")
 for path in names:
     if path.endswith((".rt", ".antt", ".sh", ".py", ".md")):

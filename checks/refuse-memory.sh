@@ -40,6 +40,13 @@ memory() {
     [ "$(cat "$work/said")" = 'confer: out of memory' ] || fault "$1" "standard error says: $(cat "$work/said")"
     ended=$((ended + 1))
 }
+# summary WHAT: what became of the growths before this one, of which some ended the run
+passed=0
+summary() {
+    [ "$ended" -gt 0 ] || { echo "$1: no growth that was refused ended the run"; exit 1; }
+    echo "$1: $((nth - 1)) growths, each refused in turn: $ended ended the run, $((nth - 1 - ended)) were done without"
+    passed=$((passed + 1))
+}
 ended=0
 for ((nth = 1; ; nth++)); do
     refuse "$nth" "$work/lines" expand --group 7 --size 3
@@ -51,7 +58,7 @@ for ((nth = 1; ; nth++)); do
 done
 [ "$status" = 1 ]
 cmp "$work/whole" "$work/shown"
-echo "expand: $((nth - 1)) growths, each refused in turn: $ended ended the run, $((nth - 1 - ended)) were done without"
+summary expand
 
 for script in "$here"/../schedules/*.script; do
     name=$(basename "$script" .script)
@@ -65,7 +72,7 @@ for script in "$here"/../schedules/*.script; do
     done
     [ "$status" = 0 ]
     cmp "${script%.script}.out" "$work/shown"
-    echo "play of $name: $((nth - 1)) growths, each refused in turn: $ended ended the run, $((nth - 1 - ended)) were done without"
+    summary "play of $name"
 done
 
 cp "$here/../examples/an-answer-overtakes.trace" "$work/trace"
@@ -83,7 +90,7 @@ for input in trace unsent; do
     done
     [ "$status" = "$whole" ]
     cmp "$work/whole" "$work/shown"
-    echo "audit of $input: $((nth - 1)) growths, each refused in turn: $ended ended the run, $((nth - 1 - ended)) were done without"
+    summary "audit of $input"
 done
 
 # how many growths a conference asks for differs from run to run: the first 60 are tried
@@ -94,9 +101,11 @@ for ((nth = 1; nth <= 60; nth++)); do
         [ "$(tail -n 1 "$work/shown")" = 'audit yes' ] || fault "$nth" 'the run ends without a yes'
     elif [ "$status" = 3 ]; then
         [ "$(cat "$work/said")" = 'confer: no thread' ] || fault "$nth" "standard error says: $(cat "$work/said")"
+        ended=$((ended + 1))
     else
         memory "$nth"
         [ ! -s "$work/shown" ] || fault "$nth" 'something is written'
     fi
 done
-echo "run: growths 1 to 60, each refused in turn: $ended ended the run for want of memory"
+summary run
+echo "$passed passed, 0 failed"

@@ -40,3 +40,4 @@ for ((schedule = 0; schedule < schedules; schedule++)); do
     [ "$refused" -gt 0 ] || { echo "no run of schedule $schedule was refused memory"; exit 1; }
     echo "schedule $schedule: $refused growths refused, each ended its run with status 5 and no text"
 done
+echo "$schedules passed, 0 failed"

@@ -7,4 +7,10 @@ set -eu
 copy_whole
 add_crate refused_rooms cb_varint cb_times cb_rooms indexmap circular_buffer
 refuse_each refused_rooms
-echo "$growths growths, each refused in turn: each call then answered as its example"
+count_rows << 'END'
+1 a new conference
+2 a message that is shown
+3 the screen
+4 the rooms
+5 a line that is composed
+END

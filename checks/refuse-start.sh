@@ -51,3 +51,4 @@ for how in "${!ended[@]}"; do
     echo "$how: ${ended[$how]} runs"
 done
 [ "${ended[REFUSE_THREAD 3]:-0}" -gt 0 ] || { echo 'no run ended for want of a thread'; exit 1; }
+echo "$((refused + threads)) passed, 0 failed"

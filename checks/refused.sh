@@ -2,9 +2,13 @@
 # which becomes a crate of a scratch copy of the repository, and is not proved there. The kit's switch refuses the
 # growth of one number in all runs of a program that it builds once: a run on an input of n bytes first takes memory n
 # times, and so has another growth of its calls refused.
+# STEP=20 refuses one growth in twenty; else each is refused.
 # STEPS=20000000 has each run made by the interpreter too, which takes longer; else only one in which none is refused.
+# The last line of each counts the rows in which a call was refused memory, and then answered as its example. A script
+# that refused nothing ends with status 1.
 # EDIT=FILE tries a mutant of the crate whose folder it lies in, as checks/wrong-bodies/cb_world/NAME.edit: a run then prints `wrong`.
 top=$(cd "$(dirname "$0")/.." && pwd)
+step=${STEP:-1}
 work=$(mktemp -d)
 trap 'rm -rf "$work"' EXIT
 
@@ -57,17 +61,19 @@ add_case() {
     echo "$2" > "$work/cases/$name.stdout"
 }
 
-# refuse_each CRATE [EVERY [EXPECTED]]: runs the crate's program with each growth that it asks for refused, or only
-# each second or third one, say; a run has to print the expected line. How many growths it asks for is told by a run in
-# which none is refused.
+# refuse_each CRATE: runs the crate's program with each growth that it asks for refused, or one in STEP; a run has to
+# print that the calls answered as the examples. A run in which none is refused says how many growths it asks
+# for.
 refuse_each() {
-    local every=${2:-${STEP:-1}} expected=${3:-as the examples} bytes
-    add_case 0 "$expected"
+    local bytes
+    add_case 0 'as the examples'
     run_cases "$1" 1000000 20000000
     growths=$(sed -n 's/^allocations: //p' "$work/shown")
     [ "${growths:-0}" -gt 0 ] || { tail -n 40 "$work/shown"; exit 1; }
-    for ((bytes = 0; bytes < growths; bytes += every)); do
-        add_case "$bytes" "$expected"
+    runs=0
+    for ((bytes = 0; bytes < growths; bytes += step)); do
+        add_case "$bytes" 'as the examples'
+        runs=$((runs + 1))
     done
     run_cases "$1" "$growths" "${STEPS:-1}"
 }
@@ -88,20 +94,26 @@ name_rows() {
 }
 
 # count_rows: the status of a run tells in which row of the program a call was refused memory, 0 being none. Says of
-# each row, read as a status and a name, how many of its growths were refused; in each of these rows one was, and none
-# in any other.
+# each row, read as a status and a name, how many of its growths were refused. In each of these rows one was, or in some
+# where not every growth was refused, and none in any other.
 count_rows() {
     local -A refused=()
-    local status row total=0
+    local status row total=0 rows=0
     for status in $(sed -n 's/^case=.* run=ended status=\([0-9]*\) .*output=expected.*/\1/p' "$work/shown"); do
         refused[$status]=$((${refused[$status]:-0} + 1))
     done
     while read -r status row; do
         echo "$row: ${refused[$status]:-0} growths refused"
-        [ "${refused[$status]:-0}" -gt 0 ] || { echo "row $status takes no memory"; exit 1; }
+        if [ -z "${refused[$status]:-}" ]; then
+            [ "$step" -gt 1 ] || { echo "row $status takes no memory"; exit 1; }
+            continue
+        fi
         total=$((total + refused[$status]))
+        rows=$((rows + 1))
         unset "refused[$status]"
     done
-    [ $((total + ${refused[0]:-0})) = "$growths" ] || { echo "another row wants memory: ${!refused[*]}"; exit 1; }
-    echo "$growths growths, each refused in turn: $total refused a call, which then answered as its example"
+    [ $((total + ${refused[0]:-0})) = "$runs" ] || { echo "another row wants memory: ${!refused[*]}"; exit 1; }
+    [ "$rows" -gt 0 ] || { echo 'no call was refused memory'; exit 1; }
+    echo "$growths growths, $runs refused in turn: $total refused a call, which then answered as its example"
+    echo "$rows passed, 0 failed"
 }

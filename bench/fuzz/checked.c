@@ -595,6 +595,21 @@ uint32_t checked_burst(struct checked *checked, const uint8_t *payloads, size_t 
     return code;
 }
 
+/* The library reads the group and the sender out of the bytes that the plain member reads out of them. */
+static void same_sender(const uint8_t *bytes, size_t length)
+{
+    struct frame frame;
+    bool is_frame = frame_read(&frame, bytes, length);
+
+    memset(filled.times, UNTOUCHED, 2 * sizeof filled.times[0]);
+    MUST(reached(CALL_SENDER, jolunza_sender(guarded(GUARD_BYTES, bytes, length), length, &filled.times[0], &filled.times[1]))
+         == (is_frame ? JOLUNZA_DONE : JOLUNZA_MALFORMED));
+    if (is_frame)
+        MUST(filled.times[0] == frame.group && filled.times[1] == frame.sender);
+    else
+        MUST(is_untouched(filled.times, 2 * sizeof filled.times[0]));
+}
+
 /* What the library has answered is what the plain member answers to the bytes. */
 static struct taken received(struct checked *checked, uint32_t code, const uint8_t *bytes, size_t length)
 {
@@ -609,6 +624,7 @@ static struct taken received(struct checked *checked, uint32_t code, const uint8
         MUST(IS_UNTOUCHED(filled.received));
     reached_amount(AMOUNT_DELIVERED, taken.received.delivered);
     answered(checked, code, taken.code, entries);
+    same_sender(bytes, length);
     return taken;
 }
 
@@ -852,7 +868,8 @@ static void none_of_no_member(struct checked *checked, uint32_t member)
 {
     MUST(reached(CALL_STABLE_OF, jolunza_stable_of(&checked->handle, member, filled.times)) == JOLUNZA_BAD_MEMBER);
     MUST(reached(CALL_ACKNOWLEDGED_BY, jolunza_acknowledged_by(&checked->handle, member, filled.times)) == JOLUNZA_BAD_MEMBER);
-    MUST(reached(CALL_WAITS_FOR, jolunza_waits_for(&checked->handle, member, &filled.delayed)) == JOLUNZA_NONE_THERE);
+    MUST(reached(CALL_KEEPS_WINDOW_FULL, jolunza_keeps_window_full(&checked->handle, member, &filled.full)) == JOLUNZA_BAD_MEMBER);
+    MUST(reached(CALL_WAITS_FOR, jolunza_waits_for(&checked->handle, member, &filled.delayed)) == JOLUNZA_BAD_MEMBER);
 }
 
 void checked_read_none(struct checked *checked, uint32_t member)

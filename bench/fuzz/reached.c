@@ -37,6 +37,7 @@ static const char *const CALL_NAMES[CALLS] = {
     [CALL_RESUME] = "resume",
     [CALL_JOURNAL_HEAD] = "journal_head",
     [CALL_JOURNAL_LINE] = "journal_line",
+    [CALL_SENDER] = "sender",
 };
 
 static const char *const CODE_NAMES[CODE_COUNT] = {
@@ -70,7 +71,7 @@ static uint32_t codes_of(const uint32_t *codes, size_t count)
     return bits;
 }
 
-/* The codes that the header names for the call, as bits; of each but open and resume CLOSED, and DONE of all. */
+/* The codes that the header names for the call, as bits; of each call on a handle but open and resume CLOSED, and DONE of all. */
 static uint32_t named(enum call call)
 {
     switch (call) {
@@ -99,13 +100,17 @@ static uint32_t named(enum call call)
         return CODES(JOLUNZA_NO_MEMORY);
     case CALL_JOURNAL_LINE:
         return CODES(JOLUNZA_NONE_THERE, JOLUNZA_NO_MEMORY);
+    case CALL_SENDER:
+        return CODES(JOLUNZA_MALFORMED, JOLUNZA_NO_MEMORY);
     case CALL_STABLE_OF:
     case CALL_ACKNOWLEDGED_BY:
+    case CALL_KEEPS_WINDOW_FULL:
         return CODES(JOLUNZA_BAD_MEMBER);
+    case CALL_WAITS_FOR:
+        return CODES(JOLUNZA_BAD_MEMBER, JOLUNZA_NONE_THERE);
     case CALL_FRAME:
     case CALL_EVENT:
     case CALL_ENTRY:
-    case CALL_WAITS_FOR:
         return CODES(JOLUNZA_NONE_THERE);
     default:
         return 0;
@@ -114,7 +119,8 @@ static uint32_t named(enum call call)
 
 static bool is_named(enum call call, uint32_t code)
 {
-    uint32_t all = CODES(JOLUNZA_DONE) | (call == CALL_OPEN || call == CALL_RESUME ? 0 : CODES(JOLUNZA_CLOSED));
+    bool is_never_closed = call == CALL_OPEN || call == CALL_RESUME || call == CALL_SENDER;
+    uint32_t all = CODES(JOLUNZA_DONE) | (is_never_closed ? 0 : CODES(JOLUNZA_CLOSED));
 
     return code < CODE_COUNT && ((named(call) | all) >> code & 1) == 1;
 }

@@ -31,6 +31,7 @@ enum call {
     CALL_RESUME,
     CALL_JOURNAL_HEAD,
     CALL_JOURNAL_LINE,
+    CALL_SENDER,
     CALLS
 };
 

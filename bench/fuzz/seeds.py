@@ -132,11 +132,11 @@ def loaded_without_memory():
 
 
 def made(call, *given):
-    """Makes a call that may be refused."""
+    """Makes a call that may be refused; the frames that it leaves to be sent."""
     try:
-        call(*given)
+        return [frame.bytes for frame in call(*given).frames]
     except jolunza.Refusal:
-        pass
+        return []
 
 
 def told(member):
@@ -167,16 +167,13 @@ def step_of(members, sent, words):
     """A step of a schedule by the library's members; what it leaves to be sent joins what was sent."""
     member = members[int(words[1]) % len(members)]
     if words[0] == "cast":
-        made(member.cast, payload_bytes(words[2]))
+        sent.extend(made(member.cast, payload_bytes(words[2])))
     elif words[0] == "burst":
-        made(member.cast_burst, [payload_bytes(word) for word in words[2:]])
+        sent.extend(made(member.cast_burst, [payload_bytes(word) for word in words[2:]]))
     elif words[0] == "tick":
-        made(member.tick)
+        sent.extend(made(member.tick))
     elif words[0] == "arrive" and int(words[2]) < len(sent):
-        made(member.receive, sent[int(words[2])])
-    else:
-        return
-    sent.extend(frame.bytes for frame in member.frames())
+        sent.extend(made(member.receive, sent[int(words[2])]))
 
 
 def journals():
@@ -185,7 +182,7 @@ def journals():
         yield journal_of_example(words, calls)
     for script in sorted((TOP / "schedules").glob("*.script")):
         first, *lines = [line.split() for line in script.read_text().splitlines() if line.strip()]
-        members = [jolunza.Member(int(first[1]), int(first[3]), int(first[5]), me) for me in range(int(first[3]))]
+        members = [jolunza.Member(int(first[1]), int(first[3]), int(first[5]), me, 1_000_000) for me in range(int(first[3]))]
         sent = []
         for words in lines:
             step_of(members, sent, words)

@@ -1,6 +1,6 @@
 /*
- * Each function of the header, with each code that it can answer but NO_MEMORY (see refused.c): what a call fills, and that it
- * fills nothing and changes nothing where it answers another code than DONE. Prints how many checks passed and how many failed.
+ * Each function of the header, with each code that it can return but NO_MEMORY (see refused.c): what a call fills, and that it
+ * fills nothing and changes nothing where it returns another code than DONE. Prints how many checks passed and how many failed.
  */
 #include <pthread.h>
 #include <stdio.h>
@@ -836,7 +836,9 @@ static void test_window_kept_full(void)
         CHECK(cast(&handle, "hi") == JOLUNZA_DONE);
     }
     CHECK(keeps_full(&handle, 0, false) && keeps_full(&handle, 1, true) && keeps_full(&handle, 2, true));
-    CHECK(keeps_full(&handle, 3, false));
+    untouched();
+    CHECK(jolunza_keeps_window_full(&handle, 3, &f->full) == JOLUNZA_BAD_MEMBER && IS_UNTOUCHED(filled));
+    CHECK(jolunza_keeps_window_full(&handle, UINT32_MAX, &f->full) == JOLUNZA_BAD_MEMBER && IS_UNTOUCHED(filled));
     CHECK(receive(&handle, BYTES(0x12, 7, 1, 1, 0, 1)) == JOLUNZA_DONE);
     CHECK(keeps_full(&handle, 1, false) && keeps_full(&handle, 2, true));
     untouched();
@@ -874,7 +876,10 @@ static void test_waiting(void)
     jolunza_handle handle = JOLUNZA_CLOSED_HANDLE;
 
     open_new(&handle, 2);
-    CHECK(waiting(&handle, 0) && none_waits(&handle, 0) && none_waits(&handle, 1) && none_waits(&handle, 3));
+    CHECK(waiting(&handle, 0) && none_waits(&handle, 0) && none_waits(&handle, 1) && none_waits(&handle, 2));
+    untouched();
+    CHECK(jolunza_waits_for(&handle, 3, &filled.delayed) == JOLUNZA_BAD_MEMBER && IS_UNTOUCHED(filled));
+    CHECK(jolunza_waits_for(&handle, UINT32_MAX, &filled.delayed) == JOLUNZA_BAD_MEMBER && IS_UNTOUCHED(filled));
     /* an answer to the second message of member 0, and its third message */
     CHECK(receive(&handle, BYTES(0x11, 7, 1, 1, 1, 0, 2, 0)) == JOLUNZA_DONE);
     CHECK(receive(&handle, BYTES(0x11, 7, 0, 3, 0, 0)) == JOLUNZA_DONE);
@@ -1044,6 +1049,163 @@ static void test_resume(void)
     comes_not_back("cbcast 1 group 7 size 3 window 4 member 1\narrive 1107000100026869 0.1\ntick 12\n", 0, JOLUNZA_NOT_LEGAL, 3);
 }
 
+/* Whether these bytes are a frame of this group and of this member. */
+static bool is_from(uint32_t group, uint32_t member, const uint8_t *bytes, size_t length)
+{
+    untouched();
+    return jolunza_sender(bytes, length, &filled.times[0], &filled.times[1]) == JOLUNZA_DONE && filled.times[0] == group
+        && filled.times[1] == member && IS_UNTOUCHED(filled.times[2]);
+}
+
+static bool is_no_frame(const uint8_t *bytes, size_t length)
+{
+    untouched();
+    return jolunza_sender(bytes, length, &filled.times[0], &filled.times[1]) == JOLUNZA_MALFORMED && IS_UNTOUCHED(filled);
+}
+
+/* The sender of a cast, a burst and a status, and the requester of a request and a help frame; no member has to be open. */
+static void test_sender(void)
+{
+    static uint8_t frame[7 + JOLUNZA_LONGEST_PAYLOAD] = {0x11, 7, 2, 1, 0, 0x80, 0x08};
+
+    CHECK(is_from(7, 2, BYTES(0x11, 7, 2, 1, 1, 0, 1, 2, 'h', 'i')));
+    CHECK(is_from(7, 63, BYTES(0x21, 7, 63, 1, 0, 2, 2, 'h', 'i', 0)));
+    CHECK(is_from(7, 1, BYTES(0x12, 7, 1, 2, 0, 1, 0, 1)));
+    CHECK(is_from(7, 2, BYTES(0x13, 7, 2, 0, 1, 0, 0)));
+    CHECK(is_from(7, 2, help, sizeof help));
+    CHECK(is_from(UINT32_MAX, 0, BYTES(0x12, 0xff, 0xff, 0xff, 0xff, 0x0f, 0, 0)));
+    CHECK(is_from(7, 2, frame, sizeof frame));
+    /* bytes that no member takes for a frame */
+    CHECK(is_no_frame(jolunza_bytes(NULL), 0));
+    CHECK(is_no_frame(BYTES(0x11)) && is_no_frame(BYTES(0x11, 7)) && is_no_frame(BYTES(0x14, 7, 2, 1, 0, 0)));
+    CHECK(is_no_frame(BYTES(0x11, 7, 64, 1, 0, 0)) && is_no_frame(BYTES(0x11, 7, 2, 0, 0, 0)));
+    CHECK(is_no_frame(BYTES(0x11, 7, 2, 1, 0, 0, 0)) && is_no_frame(BYTES(0x23, 7, 2, 1, 0, 0)));
+    for (size_t length = 0; length < sizeof frame; length++)
+        CHECK(is_no_frame(frame, length));
+}
+
+/* A word of the sentence of each code. */
+static const struct {
+    uint32_t code;
+    const char *word;
+} texts[] = {
+    {JOLUNZA_DONE, "done"},
+    {JOLUNZA_CLOSED, "no member"},
+    {JOLUNZA_NO_MEMORY, "memory"},
+    {JOLUNZA_BAD_GROUP, "2 to 64 members"},
+    {JOLUNZA_BAD_MEMBER, "no such member"},
+    {JOLUNZA_BAD_LIMIT, "16,777,216"},
+    {JOLUNZA_PAYLOAD_TOO_LONG, "1,024 bytes"},
+    {JOLUNZA_WINDOW_FULL, "window is full"},
+    {JOLUNZA_HISTORY_FULL, "history is full"},
+    {JOLUNZA_OTHER_GROUP, "another group"},
+    {JOLUNZA_IMPOSSIBLE, "never did"},
+    {JOLUNZA_TOO_FAR, "beyond the window"},
+    {JOLUNZA_MALFORMED, "no frame"},
+    {JOLUNZA_NONE_THERE, "no such index"},
+    {JOLUNZA_OVERLAP, "received before"},
+    {JOLUNZA_EMPTY_BURST, "at least one payload"},
+    {JOLUNZA_BURST_TOO_LONG, "32 payloads"},
+    {JOLUNZA_NO_HEAD, "no whole line"},
+    {JOLUNZA_BAD_LINE, "damaged"},
+    {JOLUNZA_TOO_LONG, "more entries"},
+    {JOLUNZA_NOT_LEGAL, "no call of the member"},
+};
+
+enum { CODES = sizeof texts / sizeof texts[0] };
+
+static void test_text(void)
+{
+    CHECK(CODES == JOLUNZA_NOT_LEGAL + 1);
+    for (uint32_t code = 0; code < CODES; code++) {
+        CHECK(texts[code].code == code && strstr(jolunza_text(code), texts[code].word) != NULL);
+        for (uint32_t other = 0; other < CODES; other++)
+            CHECK((strstr(jolunza_text(other), texts[code].word) != NULL) == (other == code));
+    }
+    CHECK(strcmp(jolunza_text(CODES), "unknown code") == 0 && strcmp(jolunza_text(UINT32_MAX), "unknown code") == 0);
+}
+
+/* What a program has for no bytes is taken as such, and bytes stay what they are. */
+static void test_bytes(void)
+{
+    jolunza_handle handle = JOLUNZA_CLOSED_HANDLE;
+    const char *text = "hi";
+
+    CHECK(jolunza_bytes(NULL) != NULL);
+    CHECK(jolunza_bytes(text) == (const uint8_t *)text);
+    open_new(&handle, 0);
+    CHECK(jolunza_cast(&handle, jolunza_bytes(NULL), 0) == JOLUNZA_DONE);
+    CHECK(is_frame(&handle, 0, TO_ALL, BYTES(0x11, 7, 0, 1, 0, 0)));
+    CHECK(receive(&handle, jolunza_bytes(NULL), 0) == JOLUNZA_MALFORMED);
+    jolunza_close(&handle);
+}
+
+static size_t put_number(uint8_t *to, uint32_t number)
+{
+    size_t length = 0;
+
+    for (; number >= 0x80; number >>= 7)
+        to[length++] = (uint8_t)(number | 0x80);
+    to[length++] = (uint8_t)number;
+    return length;
+}
+
+/* A burst of 32 messages of the sender, from `first` on. Each has `length` bytes, all 0; the first comes after `past` of member 1. */
+static size_t put_burst(uint8_t *to, uint32_t sender, uint32_t first, uint8_t past, uint8_t length)
+{
+    size_t end = 1;
+
+    to[0] = 0x21;
+    end += put_number(to + end, UINT32_MAX);
+    to[end++] = (uint8_t)sender;
+    end += put_number(to + end, first);
+    to[end++] = past > 0;
+    if (past > 0) {
+        to[end++] = 1;
+        to[end++] = past;
+    }
+    to[end++] = JOLUNZA_MOST_MESSAGES;
+    for (int i = 0; i < JOLUNZA_MOST_MESSAGES; i++) {
+        to[end++] = length;
+        memset(to + end, 0, length);
+        end += length;
+    }
+    return end;
+}
+
+/* Member 0 has a whole window of each of 63 others, and all of it waits for the first burst of member 1. */
+static void open_with_all_waiting(jolunza_handle *handle, uint32_t window)
+{
+    uint8_t frame[JOLUNZA_LONGEST_FRAME];
+
+    CHECK(jolunza_open(handle, UINT32_MAX, JOLUNZA_MOST_MEMBERS, window, 0, 0) == JOLUNZA_DONE);
+    for (uint32_t sender = 1; sender < JOLUNZA_MOST_MEMBERS; sender++)
+        for (uint32_t first = sender == 1 ? 33 : 1; first < window; first += JOLUNZA_MOST_MESSAGES)
+            CHECK(receive(handle, frame, put_burst(frame, sender, first, sender > 1 && first == 1, 0)) == JOLUNZA_DONE);
+}
+
+/* The burst delivers all at once. What its line lacks of the longest one is what its frame lacks of the longest, and the digits that each
+ * number lacks of ten: 9 numbers have one, 90 two and 157 three. */
+static void test_longest_line(void)
+{
+    enum { WIDEST = 256, OTHERS = JOLUNZA_MOST_MEMBERS - 1, LACKING = 9 * 9 + 90 * 8 + 157 * 7 };
+    static uint8_t line[JOLUNZA_LONGEST_LINE];
+    jolunza_handle handle = JOLUNZA_CLOSED_HANDLE;
+    uint8_t frame[JOLUNZA_LONGEST_FRAME];
+    size_t length = put_burst(frame, 1, 1, 0, JOLUNZA_LONGEST_PAYLOAD / JOLUNZA_MOST_MESSAGES), count = 0, names = 0;
+
+    open_with_all_waiting(&handle, WIDEST);
+    CHECK(receive(&handle, frame, length) == JOLUNZA_DONE);
+    CHECK(has_received(false, true, OTHERS * WIDEST));
+    CHECK(jolunza_journal_line(&handle, 0, line, sizeof line, &count) == JOLUNZA_DONE);
+    CHECK(count + 2 * (JOLUNZA_LONGEST_FRAME - length) + OTHERS * LACKING == JOLUNZA_LONGEST_LINE);
+    CHECK(count <= sizeof line && line[count - 1] == '\n' && memcmp(line, "arrive 21ffffffff0f0101", 23) == 0);
+    for (size_t i = 0; i < count && i < sizeof line; i++)
+        names += line[i] == '.';
+    CHECK(names == OTHERS * WIDEST);
+    jolunza_close(&handle);
+}
+
 static void *cast_elsewhere(void *handle)
 {
     return cast(handle, "noon") == JOLUNZA_DONE ? handle : NULL;
@@ -1100,6 +1262,10 @@ int main(void)
     test_missing();
     test_journal();
     test_resume();
+    test_sender();
+    test_text();
+    test_bytes();
+    test_longest_line();
     test_moves();
     printf("%u passed, %u failed\n", passed, failed);
     return failed > 0;

@@ -94,6 +94,7 @@ static struct kind {
     {"jolunza_journal_head", 0},
     {"jolunza_journal_line", 0},
     {"jolunza_resume", 0},
+    {"jolunza_sender", 0},
 };
 
 enum { KINDS = sizeof kinds / sizeof kinds[0] };
@@ -232,10 +233,27 @@ static uint64_t digest_of(jolunza_handle *handle)
 
 #define TRY(handle, call) TRY_AS(#call, handle, call)
 
+/* The sender of a frame is told. Out of memory nothing is filled, and the same call succeeds. */
+static void look_at_sender(const struct frame *frame)
+{
+    uint32_t group = UINT32_MAX, member = UINT32_MAX;
+    uint32_t code = jolunza_sender(frame->bytes, frame->head.length, &group, &member);
+
+    grant_all();
+    if (code == JOLUNZA_NO_MEMORY) {
+        count_refusal("jolunza_sender");
+        MUST(group == UINT32_MAX && member == UINT32_MAX);
+        code = jolunza_sender(frame->bytes, frame->head.length, &group, &member);
+    }
+    MUST(code == JOLUNZA_DONE && group == GROUP && member < SIZE);
+}
+
 static void receive_all(const char *kind, jolunza_handle *handle, const struct frame *frames, size_t count)
 {
     jolunza_received received;
 
+    if (count > 0)
+        look_at_sender(frames);
     for (size_t i = 0; i < count; i++)
         TRY_AS(kind, handle, jolunza_receive(handle, frames[i].bytes, frames[i].head.length, &received));
 }

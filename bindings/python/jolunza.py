@@ -1,42 +1,48 @@
 """One member of a causal group (CBCAST of Birman, Schiper and Stephenson, 1991), proved: a shell of ctypes over libjolunza.so.
 
-A member is a machine without clock, thread or socket. The program hands it what was received, sends the frames that it answers, and
-ticks it now and then. Each call does what the header `bindings/c/jolunza.h` says; a code other than DONE is raised as a `Refusal`,
-after which the member is as it was.
+A member is a machine without clock, thread or socket. The program hands it the received frames, and ticks it now and then. Each call
+answers an `Output`: the frames to be sent, and the events to be shown. A call that is refused raises a `Refusal`, and changes nothing;
+the header `bindings/c/jolunza.h` says of each call what is refused.
 
-    with Member(group=7, size=3, window=16, me=0) as member:
-        member.cast(b"when?")
-        for frame in member.frames():
-            send(frame.to, frame.bytes)  # `to` is None for all others
+    member = Member(group=7, size=3, window=16, me=0)
+    output = member.cast(b"when?")
+    for frame in output.frames:
+        send(frame.to, frame.bytes)  # `to` is None for all others
 
-A `Journal` has what a member did in a file, and brings it back after its process was killed.
+A `Journal` is a member that comes back after its process was killed: a file has what it did.
 
 Linux on x86-64, Python 3.9 or later, the standard library alone.
 """
 
 from __future__ import annotations
 
+import contextlib
 import ctypes
 import enum
 import fcntl
 import functools
+import operator
 import os
 import pathlib
+import platform
+import sys
 import threading
 from ctypes import POINTER, Structure, byref, c_bool, c_char_p, c_size_t, c_uint8, c_uint32, c_void_p
-from types import TracebackType
-from typing import Any, Iterator, NamedTuple, Optional, Sequence, Union
+from typing import Any, Iterator, NamedTuple, Optional, Sequence, TypeVar, Union
 
 LONGEST_PAYLOAD = 1024
 LONGEST_FRAME = 1456
+LONGEST_LINE = 226408
 MOST_MEMBERS = 64
 MOST_MESSAGES = 32
+
+LIBRARY = "libjolunza.so.1"
 
 Given = Union[bytes, bytearray, memoryview]
 
 
 class Code(enum.IntEnum):
-    """What the calls answer: the names of the header without `JOLUNZA_`, which tells what each means and what to do."""
+    """The answers of the calls: the names of the header without `JOLUNZA_`. The header says what each means and what to do."""
 
     DONE = 0
     CLOSED = 1
@@ -62,31 +68,84 @@ class Code(enum.IntEnum):
 
     @classmethod
     def _missing_(cls, value: object) -> Optional[Code]:
-        """UNKNOWN_ with its number: a later library's. Nothing has changed, and the program goes on."""
+        """UNKNOWN_ with its number: that of a later library. Nothing has changed, and the program continues."""
         if not isinstance(value, int) or value < 0:
             return None
         unknown = int.__new__(cls, value)
         unknown._name_, unknown._value_ = f"UNKNOWN_{value}", value
         return unknown
 
+    @property
+    def text(self) -> str:
+        """A sentence, without a full stop: that of the header."""
+        return TEXTS.get(self) or f"unknown code {self.value}"
+
+
+TEXTS = {
+    Code.DONE: "done",
+    Code.CLOSED: "the handle holds no member",
+    Code.NO_MEMORY: "out of memory: try again",
+    Code.BAD_GROUP: "a group has 2 to 64 members and a window of 1 to 256",
+    Code.BAD_MEMBER: "the group has no such member, or the call wants another one than this member",
+    Code.BAD_LIMIT: "a history has at most 16,777,216 entries",
+    Code.PAYLOAD_TOO_LONG: "a cast or a burst carries at most 1,024 bytes of payloads",
+    Code.WINDOW_FULL: "the window is full: try again after the next frame",
+    Code.HISTORY_FULL: "the history is full: begin a new group number",
+    Code.OTHER_GROUP: "the frame is of another group: drop it",
+    Code.IMPOSSIBLE: "the frame says of this member what it never did: drop it",
+    Code.TOO_FAR: "the frame is beyond the window: drop it, it comes again",
+    Code.MALFORMED: "the bytes are no frame: drop them",
+    Code.NONE_THERE: "nothing is there: no such index, fewer bytes than the lengths say, or no message that waits",
+    Code.OVERLAP: "a part of the burst was received before: drop the frame",
+    Code.EMPTY_BURST: "a burst has at least one payload",
+    Code.BURST_TOO_LONG: "a burst has at most 32 payloads",
+    Code.NO_HEAD: "the journal has no whole line",
+    Code.BAD_LINE: "a line of the journal is damaged",
+    Code.TOO_LONG: "the journal has more entries than the history may have",
+    Code.NOT_LEGAL: "a line of the journal tells what no call of the member does",
+}
+
 
 class Kind(enum.IntEnum):
-    """What an entry says was done."""
+    """The call that an entry is of."""
 
     CAST = 0
     ARRIVE = 1
     TICK = 2
 
 
-class Refusal(Exception):
-    """A call was refused, and nothing has changed. Of a journal BAD_LINE and NOT_LEGAL tell the line, the head line being 1."""
+class JolunzaError(Exception):
+    """Each error of this module is one; beside them are TypeError and OverflowError, for values of a wrong type or with too many bits."""
 
-    def __init__(self, code: Code, line: Optional[int] = None) -> None:
-        super().__init__(code, line)
-        self.code, self.line = code, line
+
+class Refusal(JolunzaError):
+    """A call was refused, and nothing has changed. `code` says why, and `call` is the name of the call. BAD_LINE and NOT_LEGAL have the
+    `line` of the journal, the head line being 1; `path` names the file, where the journal is one."""
+
+    def __init__(self, code: Code, call: str, line: Optional[int] = None, path: Optional[str] = None) -> None:
+        super().__init__(code, call, line, path)
+        self.code, self.call, self.line, self.path = code, call, line, path
 
     def __str__(self) -> str:
-        return self.code.name if self.line is None else f"{self.code.name} {self.line}"
+        line = None if self.line is None else f"line {self.line}"
+        place = ", ".join(part for part in (self.path, line) if part)
+        return f"{place}: {self.code.text}" if place else self.code.text
+
+    def __repr__(self) -> str:
+        given = [f"Code.{self.code.name}", repr(self.call)]
+        given += [f"{name}={value!r}" for name, value in (("line", self.line), ("path", self.path)) if value is not None]
+        return f"Refusal({', '.join(given)})"
+
+    @property
+    def is_frame_fault(self) -> bool:
+        """Whether the received frame is at fault: drop it, count it, and continue. A code of a later library is taken for one."""
+        faults = (Code.MALFORMED, Code.OTHER_GROUP, Code.BAD_MEMBER, Code.IMPOSSIBLE, Code.TOO_FAR, Code.OVERLAP)
+        return self.call.startswith(("receive", "sender")) and (self.code in faults or self.code not in TEXTS)
+
+    @property
+    def is_transient(self) -> bool:
+        """Whether the same call can be done later: the window was full, or memory was refused."""
+        return self.code in (Code.WINDOW_FULL, Code.NO_MEMORY)
 
 
 class Settings(NamedTuple):
@@ -98,20 +157,33 @@ class Settings(NamedTuple):
     me: int
 
 
-class OtherJournal(Exception):
+class JournalFault(JolunzaError):
+    """A fault of the file `path` of a journal; the cause is an OSError, if the system had one. Once a call raises it, each later call does:
+    send nothing more, close the journal, and open it anew."""
+
+    def __init__(self, path: str, fault: str) -> None:
+        super().__init__(path, fault)
+        self.path, self.fault = path, fault
+
+    def __str__(self) -> str:
+        return f"{self.path}: {self.fault}"
+
+
+class OtherJournal(JournalFault):
     """The journal is of another member, or of another group number, size or window: of `settings`."""
 
-    def __init__(self, settings: Settings) -> None:
-        super().__init__(settings)
-        self.settings = settings
+    def __init__(self, path: str, settings: Settings) -> None:
+        group, size, window, me = settings
+        super().__init__(path, f"the journal is of member {me} of {size}, group {group}, window {window}")
+        self.args, self.settings = (path, settings), settings
 
 
-class LeftOut(Exception):
-    """Of a member without a history: between two calls nothing was appended to its journal, and the entry of the first of them is lost."""
+class LockedJournal(JournalFault):
+    """Another has the journal open, in this process or not: it would be one member twice."""
 
 
 class Name(NamedTuple):
-    """Of a message: its sender, and the how manieth cast of that sender it is, from 1."""
+    """The name of a message: its sender, and its place among the casts of that sender, from 1."""
 
     sender: int
     number: int
@@ -121,20 +193,11 @@ class Name(NamedTuple):
 
 
 class Counts(NamedTuple):
-    """How many there are: frames of the last call that was done, events since the member was opened, entries of its history. Without a
-    history events and entries are those of that call, or, where it was `help`, of the one before."""
+    """How many events and entries there are to be read: all, of a member with a history; else those of its last call but `help`, or, of a
+    member that came back and made no call yet, those of its journal."""
 
-    frames: int
     events: int
     entries: int
-
-
-class Received(NamedTuple):
-    """What a frame that was taken did. A repeat changed nothing; an entry there is of what changed the member."""
-
-    is_repeat: bool
-    is_entered: bool
-    delivered: int
 
 
 class Frame(NamedTuple):
@@ -153,8 +216,18 @@ class Event(NamedTuple):
     payload: bytes
 
 
+class Output(NamedTuple):
+    """The effects of a call: the frames to be sent, and the events that are new. `is_repeat`: the frame brought a cast that the member had
+    already. `is_entered`: the call changed the member, and added an entry."""
+
+    frames: tuple[Frame, ...]
+    events: tuple[Event, ...]
+    is_repeat: bool
+    is_entered: bool
+
+
 class Entry(NamedTuple):
-    """What was done, the frame of it, and the names of the messages that an arrival delivered."""
+    """A call that changed the member: its frame, and the names of the messages that an arrival delivered."""
 
     kind: Kind
     frame: bytes
@@ -168,22 +241,24 @@ class Awaited(NamedTuple):
     numbers: range
 
 
-class Resumed(NamedTuple):
-    """A member that came back by its journal. `settings` are those of the journal, for the caller to compare with what it expects. It has
-    so many entries, and so many bytes of it were read: the file is to be cut behind them before anything is written."""
-
-    member: Member
-    settings: Settings
-    entries: int
-    read: int
-
-
 class Delayed(NamedTuple):
     """The first message of a member that waits, and what it waits for; where that is None all of its past is delivered here, and it is
     delivered with the next cast that is received."""
 
     name: Name
     awaits: Optional[Awaited]
+
+
+class Resumed(NamedTuple):
+    """A member that came back by its journal. `settings` are those of the journal, for the caller to compare with what it expects;
+    `entries` counts its whole lines after the head line, and `read` is the length of all whole lines: cut the file there before anything is
+    written. `events` has all casts and deliveries of the journal."""
+
+    member: Member
+    settings: Settings
+    entries: int
+    read: int
+    events: tuple[Event, ...]
 
 
 # The structures and functions of the header, with its names. `bindings/check_header.py` compares them with it.
@@ -222,25 +297,11 @@ class jolunza_range(Structure):
 
 
 class jolunza_delayed(Structure):
-    _fields_ = [
-        ("is_ready", c_bool),
-        ("number", c_uint32),
-        ("sender", c_uint32),
-        ("first", c_uint32),
-        ("last", c_uint32),
-    ]
+    _fields_ = [("is_ready", c_bool), *((it, c_uint32) for it in ("number", "sender", "first", "last"))]
 
 
 class jolunza_journal(Structure):
-    _fields_ = [
-        ("group", c_uint32),
-        ("size", c_uint32),
-        ("window", c_uint32),
-        ("me", c_uint32),
-        ("entries", c_size_t),
-        ("read", c_size_t),
-        ("line", c_size_t),
-    ]
+    _fields_ = [*((it, c_uint32) for it in ("group", "size", "window", "me")), *((it, c_size_t) for it in ("entries", "read", "line"))]
 
 
 class const_size_t(POINTER(c_size_t)):  # type: ignore[misc]
@@ -251,94 +312,44 @@ class const_size_t(POINTER(c_size_t)):  # type: ignore[misc]
 
 HANDLE = ("handle", POINTER(jolunza_handle))
 
-# Of each function what it answers, and its parameters. `c_char_p` is bytes that are only read, and never NULL here.
+# The answer and the parameters of each function. `c_char_p` is bytes that are only read, and never NULL here.
 FUNCTIONS: dict[str, tuple[Any, list[tuple[str, Any]]]] = {
-    "jolunza_open": (
-        c_uint32,
-        [HANDLE, ("group", c_uint32), ("size", c_uint32), ("window", c_uint32), ("me", c_uint32), ("history_max", c_size_t)],
-    ),
+    "jolunza_open": (c_uint32, [
+        HANDLE, ("group", c_uint32), ("size", c_uint32), ("window", c_uint32), ("me", c_uint32), ("history_max", c_size_t),
+    ]),
     "jolunza_close": (None, [HANDLE]),
     "jolunza_cast": (c_uint32, [HANDLE, ("payload", c_char_p), ("length", c_size_t)]),
-    "jolunza_cast_burst": (
-        c_uint32,
-        [HANDLE, ("payloads", c_char_p), ("length", c_size_t), ("lengths", const_size_t), ("count", c_size_t)],
-    ),
-    "jolunza_receive": (
-        c_uint32,
-        [HANDLE, ("bytes", c_char_p), ("length", c_size_t), ("received", POINTER(jolunza_received))],
-    ),
+    "jolunza_cast_burst": (c_uint32, [
+        HANDLE, ("payloads", c_char_p), ("length", c_size_t), ("lengths", const_size_t), ("count", c_size_t),
+    ]),
+    "jolunza_receive": (c_uint32, [HANDLE, ("bytes", c_char_p), ("length", c_size_t), ("received", POINTER(jolunza_received))]),
     "jolunza_load": (c_uint32, [HANDLE, ("bytes", c_char_p), ("length", c_size_t)]),
-    "jolunza_receive_loaded": (
-        c_uint32,
-        [HANDLE, ("first", c_size_t), ("length", c_size_t), ("received", POINTER(jolunza_received))],
-    ),
-    "jolunza_receive_parts": (
-        c_uint32,
-        [HANDLE, ("first", c_size_t), ("lengths", const_size_t), ("count", c_size_t), ("taken", POINTER(c_size_t))],
-    ),
+    "jolunza_receive_loaded": (c_uint32, [HANDLE, ("first", c_size_t), ("length", c_size_t), ("received", POINTER(jolunza_received))]),
+    "jolunza_receive_parts": (c_uint32, [
+        HANDLE, ("first", c_size_t), ("lengths", const_size_t), ("count", c_size_t), ("taken", POINTER(c_size_t)),
+    ]),
     "jolunza_tick": (c_uint32, [HANDLE]),
     "jolunza_help": (c_uint32, [HANDLE, ("member", c_uint32)]),
     "jolunza_count": (c_uint32, [HANDLE, ("counts", POINTER(jolunza_counts))]),
-    "jolunza_frame": (
-        c_uint32,
-        [
-            HANDLE,
-            ("index", c_size_t),
-            ("head", POINTER(jolunza_frame_head)),
-            ("bytes", POINTER(c_uint8)),
-            ("capacity", c_size_t),
-        ],
-    ),
-    "jolunza_frames": (
-        c_uint32,
-        [
-            HANDLE,
-            ("first", c_size_t),
-            ("heads", POINTER(jolunza_frame_head)),
-            ("heads_capacity", c_size_t),
-            ("bytes", POINTER(c_uint8)),
-            ("capacity", c_size_t),
-            ("count", POINTER(c_size_t)),
-        ],
-    ),
-    "jolunza_event": (
-        c_uint32,
-        [
-            HANDLE,
-            ("index", c_size_t),
-            ("head", POINTER(jolunza_event_head)),
-            ("payload", POINTER(c_uint8)),
-            ("capacity", c_size_t),
-            ("time", POINTER(c_uint32)),
-            ("time_capacity", c_size_t),
-        ],
-    ),
-    "jolunza_events": (
-        c_uint32,
-        [
-            HANDLE,
-            ("first", c_size_t),
-            ("heads", POINTER(jolunza_event_head)),
-            ("heads_capacity", c_size_t),
-            ("payloads", POINTER(c_uint8)),
-            ("capacity", c_size_t),
-            ("times", POINTER(c_uint32)),
-            ("times_capacity", c_size_t),
-            ("count", POINTER(c_size_t)),
-        ],
-    ),
-    "jolunza_entry": (
-        c_uint32,
-        [
-            HANDLE,
-            ("index", c_size_t),
-            ("head", POINTER(jolunza_entry_head)),
-            ("frame", POINTER(c_uint8)),
-            ("capacity", c_size_t),
-            ("delivered", POINTER(jolunza_name)),
-            ("delivered_capacity", c_size_t),
-        ],
-    ),
+    "jolunza_frame": (c_uint32, [
+        HANDLE, ("index", c_size_t), ("head", POINTER(jolunza_frame_head)), ("bytes", POINTER(c_uint8)), ("capacity", c_size_t),
+    ]),
+    "jolunza_frames": (c_uint32, [
+        HANDLE, ("first", c_size_t), ("heads", POINTER(jolunza_frame_head)), ("heads_capacity", c_size_t), ("bytes", POINTER(c_uint8)),
+        ("capacity", c_size_t), ("count", POINTER(c_size_t)),
+    ]),
+    "jolunza_event": (c_uint32, [
+        HANDLE, ("index", c_size_t), ("head", POINTER(jolunza_event_head)), ("payload", POINTER(c_uint8)), ("capacity", c_size_t),
+        ("time", POINTER(c_uint32)), ("time_capacity", c_size_t),
+    ]),
+    "jolunza_events": (c_uint32, [
+        HANDLE, ("first", c_size_t), ("heads", POINTER(jolunza_event_head)), ("heads_capacity", c_size_t), ("payloads", POINTER(c_uint8)),
+        ("capacity", c_size_t), ("times", POINTER(c_uint32)), ("times_capacity", c_size_t), ("count", POINTER(c_size_t)),
+    ]),
+    "jolunza_entry": (c_uint32, [
+        HANDLE, ("index", c_size_t), ("head", POINTER(jolunza_entry_head)), ("frame", POINTER(c_uint8)), ("capacity", c_size_t),
+        ("delivered", POINTER(jolunza_name)), ("delivered_capacity", c_size_t),
+    ]),
     "jolunza_time": (c_uint32, [HANDLE, ("time", POINTER(c_uint32)), ("capacity", c_size_t)]),
     "jolunza_stable": (c_uint32, [HANDLE, ("count", POINTER(c_uint32))]),
     "jolunza_stable_of": (c_uint32, [HANDLE, ("member", c_uint32), ("count", POINTER(c_uint32))]),
@@ -346,58 +357,56 @@ FUNCTIONS: dict[str, tuple[Any, list[tuple[str, Any]]]] = {
     "jolunza_keeps_window_full": (c_uint32, [HANDLE, ("member", c_uint32), ("full", POINTER(c_bool))]),
     "jolunza_waiting": (c_uint32, [HANDLE, ("count", POINTER(c_uint32))]),
     "jolunza_waits_for": (c_uint32, [HANDLE, ("member", c_uint32), ("delayed", POINTER(jolunza_delayed))]),
-    "jolunza_missing": (
-        c_uint32,
-        [
-            HANDLE,
-            ("member", c_uint32),
-            ("ranges", POINTER(jolunza_range)),
-            ("capacity", c_size_t),
-            ("count", POINTER(c_size_t)),
-        ],
-    ),
-    "jolunza_resume": (
-        c_uint32,
-        [
-            HANDLE,
-            ("bytes", c_char_p),
-            ("length", c_size_t),
-            ("history_max", c_size_t),
-            ("journal", POINTER(jolunza_journal)),
-        ],
-    ),
-    "jolunza_journal_head": (
-        c_uint32,
-        [HANDLE, ("text", POINTER(c_uint8)), ("capacity", c_size_t), ("length", POINTER(c_size_t))],
-    ),
-    "jolunza_journal_line": (
-        c_uint32,
-        [HANDLE, ("index", c_size_t), ("text", POINTER(c_uint8)), ("capacity", c_size_t), ("length", POINTER(c_size_t))],
-    ),
+    "jolunza_missing": (c_uint32, [
+        HANDLE, ("member", c_uint32), ("ranges", POINTER(jolunza_range)), ("capacity", c_size_t), ("count", POINTER(c_size_t)),
+    ]),
+    "jolunza_resume": (c_uint32, [
+        HANDLE, ("bytes", c_char_p), ("length", c_size_t), ("history_max", c_size_t), ("journal", POINTER(jolunza_journal)),
+    ]),
+    "jolunza_journal_head": (c_uint32, [HANDLE, ("text", POINTER(c_uint8)), ("capacity", c_size_t), ("length", POINTER(c_size_t))]),
+    "jolunza_journal_line": (c_uint32, [
+        HANDLE, ("index", c_size_t), ("text", POINTER(c_uint8)), ("capacity", c_size_t), ("length", POINTER(c_size_t)),
+    ]),
+    "jolunza_sender": (c_uint32, [("bytes", c_char_p), ("length", c_size_t), ("group", POINTER(c_uint32)), ("member", POINTER(c_uint32))]),
 }
 
 
 def library_path() -> str:
-    """Where the library is: in the folder JOLUNZA_LIB, else in bindings/out, else where the system's loader looks."""
+    """Where the library is: in the folder JOLUNZA_LIB where that is set, else in the first of these folders that contains it: this module's,
+    bindings/out, which bindings/build.sh fills, and bindings/prebuilt. Else it is where the system's loader looks."""
     folder = os.environ.get("JOLUNZA_LIB")
     if folder:
-        return os.path.join(os.path.abspath(folder), "libjolunza.so")
-    built = pathlib.Path(__file__).resolve().parent.parent / "out" / "libjolunza.so"
-    return str(built) if built.exists() else "libjolunza.so.1"
+        return os.path.join(os.path.abspath(folder), LIBRARY)
+    here = pathlib.Path(__file__).resolve().parent
+    bindings = here.parent
+    folders = (here, bindings / "out", bindings / "prebuilt" / "x86_64-linux-gnu")
+    return next((str(it / LIBRARY) for it in folders if (it / LIBRARY).is_file()), LIBRARY)
 
 
 @functools.lru_cache(maxsize=None)
 def library() -> ctypes.CDLL:
     """The library, with the types of its functions."""
+    if (sys.platform, platform.machine()) != ("linux", "x86_64"):
+        raise JolunzaError(f"{LIBRARY} is for Linux on x86-64, and this is {sys.platform} on {platform.machine()}")
     path = library_path()
     try:
         opened = ctypes.CDLL(path)
-    except OSError as fault:
-        raise OSError(f"no library: {fault}. bindings/build.sh makes it; JOLUNZA_LIB names another folder for it.") from fault
-    for name, (answer, parameters) in FUNCTIONS.items():
-        function = getattr(opened, name)
-        function.restype, function.argtypes = answer, [kind for _, kind in parameters]
+        for name, (answer, parameters) in FUNCTIONS.items():
+            function = getattr(opened, name)
+            function.restype, function.argtypes = answer, [kind for _, kind in parameters]
+    except (OSError, AttributeError) as fault:
+        raise JolunzaError(f"no library: {fault}. JOLUNZA_LIB names the folder of {LIBRARY}.") from fault
     return opened
+
+
+def sender(frame: Given) -> tuple[int, int]:
+    """The group number of a frame, and which member sent it: of a request or a help frame the one that asks. Only what the frame says:
+    anybody can write it. MALFORMED where the bytes are no frame."""
+    given, group, member = _given(frame), c_uint32(), c_uint32()
+    code = library().jolunza_sender(given, len(given), byref(group), byref(member))
+    if code:
+        raise Refusal(Code(code), "sender")
+    return group.value, member.value
 
 
 def _given(given: Given) -> bytes:
@@ -405,63 +414,80 @@ def _given(given: Given) -> bytes:
 
 
 def _number(value: int, bits: int) -> int:
-    """The value, where it has as many bits: ctypes would cut it."""
+    """The value, where it fits into that many bits: ctypes would cut it."""
+    value = operator.index(value)
     if not 0 <= value < 1 << bits:
         raise OverflowError(f"{value} is no number of {bits} bits")
     return value
 
 
+def _member(value: int) -> int:
+    """The number of a member; one that ctypes would cut becomes another that no member has."""
+    return value if 0 <= operator.index(value) < 1 << 32 else (1 << 32) - 1
+
+
+_AMember = TypeVar("_AMember", bound="Member")
+
+
 class Member:
-    """Opens a member; `close`, the end of a `with`, or its last use frees it. It may be used by several threads, one call after another.
+    """Opens a member; `close`, the end of a `with`, or its last use frees it. Its `settings` say which one it is. Each member number of a
+    group is opened once in the world, and a forked process uses no member of its parent. A `Journal` comes back.
 
-    Of the same group number, size and window each member number is opened once in the world, and so not in a forked process as well.
-    Who wants to come back writes a `Journal`.
+    Threads may share a member: a call waits for the one before, and its answer is of this call alone. A signal handler makes no call, since
+    it would wait for ever; an exception that it raises during a call takes the answer with it.
 
-    Its history has at most `history_max` entries. With 0 it keeps none: its memory stays bounded, HISTORY_FULL never comes, and events
-    and entries are those of the last call of `cast`, `cast_burst`, `receive` or `tick` that was done.
+    It keeps no history, its memory stays bounded, and HISTORY_FULL never comes. With a history, of at most `history_max` entries, an
+    audit can read all that it did.
     """
 
-    # Room for so many at a time; one of the longest fits at least, so a bulk copy answers 0 only at the end.
+    # The most frames or events that are copied at once. One of the longest fits in any case.
     _MANY = 16
 
-    def __init__(self, group: int, size: int, window: int, me: int, history_max: int = 1_000_000) -> None:
+    def __init__(self, group: int, size: int, window: int, me: int, history_max: int = 0) -> None:
         self._prepare(history_max)
-        numbers = [_number(value, 32) for value in (group, size, window, me)]
-        self._call("open", *numbers, _number(history_max, 64))
-        self._size = size
+        self._open(Settings(group, size, window, me))
 
-    @classmethod
-    def resume(cls, journal: Given, history_max: int = 1_000_000) -> Resumed:
-        """The member whose journal these bytes are, as it was after the last whole line: its time, its events, its history, and each frame
-        that it will send. There are no frames, and `events` has all, without a history until the next call. The first of NO_HEAD, BAD_LINE,
-        BAD_LIMIT, TOO_LONG and NOT_LEGAL that holds is raised. After NO_HEAD the journal is to be begun where there is nothing, or only a
-        beginning of what `journal_head` gives; else it is no journal."""
-        member, given, read = cls.__new__(cls), _given(journal), jolunza_journal()
+    @staticmethod
+    def resume(journal: Given, history_max: int = 0) -> Resumed:
+        """The member whose journal these bytes are, as it was after the last whole line: its time, its history, and each frame that it will
+        send. There are no frames. The first of NO_HEAD, BAD_LINE, BAD_LIMIT, TOO_LONG and NOT_LEGAL that holds is raised. After NO_HEAD
+        begin the journal where there is nothing, or only a beginning of what `journal_head` gives; else it is no journal."""
+        member = Member.__new__(Member)
         member._prepare(history_max)
-        try:
-            member._call("resume", given, len(given), _number(history_max, 64), byref(read))
-        except Refusal as refusal:
-            tells_line = refusal.code in (Code.BAD_LINE, Code.NOT_LEGAL)
-            raise Refusal(refusal.code, read.line if tells_line else None) from None
-        member._size = read.size
-        return Resumed(member, Settings(read.group, read.size, read.window, read.me), read.entries, read.read)
+        read = member._resume(_given(journal))
+        return Resumed(member, member.settings, read.entries, read.read, member._all_events(0, member._count().events))
 
     def _prepare(self, history_max: int) -> None:
+        self._history_max = _number(history_max, 64)
+        self.keeps_history = history_max > 0
         self._handle = byref(jolunza_handle())
         self._lock = threading.Lock()
-        self._library = library()
-        self.keeps_history = history_max > 0
-        # without a history: how many entries were added since it was opened or came back
-        self._entered = 0
         self._bytes = (c_uint8 * (self._MANY * LONGEST_FRAME))()
         self._view = memoryview(self._bytes)
+        self._library = library()
 
-    def __enter__(self) -> Member:
+    def _open(self, settings: Settings) -> None:
+        self.settings = settings
+        numbers = [_number(value, 32) for value in settings[:3]]
+        self._call("open", *numbers, _member(settings.me), self._history_max)
+
+    def _resume(self, given: bytes, path: Optional[str] = None) -> jolunza_journal:
+        read = jolunza_journal()
+        code = self._code("resume", given, len(given), self._history_max, byref(read))
+        if code:
+            line = read.line if code in (Code.BAD_LINE, Code.NOT_LEGAL) else None
+            raise Refusal(Code(code), "resume", line, path)
+        self.settings = Settings(read.group, read.size, read.window, read.me)
+        return read
+
+    def __repr__(self) -> str:
+        given = ", ".join(f"{name}={value}" for name, value in self.settings._asdict().items())
+        return f"Member({given}, history_max={self._history_max})"
+
+    def __enter__(self: _AMember) -> _AMember:
         return self
 
-    def __exit__(
-        self, kind: Optional[type[BaseException]], raised: Optional[BaseException], trace: Optional[TracebackType]
-    ) -> None:
+    def __exit__(self, *raised: object) -> None:
         self.close()
 
     def __del__(self) -> None:
@@ -473,27 +499,24 @@ class Member:
         with self._lock:
             self._library.jolunza_close(self._handle)
 
-    def cast(self, payload: Given) -> None:
-        """Casts a message. The one frame to be sent goes to all others; the last event is the message."""
+    def cast(self, payload: Given) -> Output:
+        """Casts a message. The one frame is for all others, and the one event is the message. After WINDOW_FULL keep the payload, and cast
+        it again when frames have come."""
         given = _given(payload)
-        with self._lock:
-            self._enter("cast", given, len(given))
+        return self._done("cast", given, len(given))
 
-    def cast_burst(self, payloads: Sequence[Given]) -> None:
-        """Casts the messages of a burst, 1 to 32, in one frame, which goes to all others; the last events are the messages, each with a
-        number and a time of its own. There is one entry of all."""
+    def cast_burst(self, payloads: Sequence[Given]) -> Output:
+        """Casts the messages of a burst, 1 to 32, in one frame, which is for all others; the events are the messages, each with a number
+        and a time of its own. There is one entry of all."""
         given = [_given(payload) for payload in payloads]
         joined, lengths = b"".join(given), (c_size_t * len(given))(*map(len, given))
-        with self._lock:
-            self._enter("cast_burst", joined, len(joined), lengths, len(given))
+        return self._done("cast_burst", joined, len(joined), lengths, len(given))
 
-    def receive(self, frame: Given) -> Received:
-        """Takes received bytes: one frame, whole. The last `delivered` events are new, and frames to be sent answer a request for casts of
-        this member, or a help frame, which asks this member for casts of another."""
-        given, received = _given(frame), jolunza_received()
-        with self._lock:
-            self._enter("receive", given, len(given), byref(received))
-        return Received(received.is_repeat, received.is_entered, received.delivered)
+    def receive(self, frame: Given) -> Output:
+        """Takes received bytes: one frame, whole. The events are what it delivers; the frames answer a request for casts of this member, or
+        a help frame, which asks this member for casts of another. If the refusal `is_frame_fault`, drop the frame and continue."""
+        given = _given(frame)
+        return self._received("receive", given, len(given))
 
     def load(self, frames: Given) -> None:
         """For many frames at once: copies bytes in, in place of those that were loaded before. They stay over every other call."""
@@ -501,53 +524,41 @@ class Member:
         with self._lock:
             self._call("load", given, len(given))
 
-    def receive_loaded(self, first: int, length: int) -> Received:
-        """Takes so many of the loaded bytes, from the one that has `first` before it: one frame, whole, as `receive` takes it. NONE_THERE
+    def receive_loaded(self, first: int, length: int) -> Output:
+        """Takes `length` of the loaded bytes, from the one that has `first` before it: one frame, whole, as `receive` takes it. NONE_THERE
         where not all of them are loaded."""
-        numbers, received = [_number(value, 64) for value in (first, length)], jolunza_received()
-        with self._lock:
-            self._enter("receive_loaded", *numbers, byref(received))
-        return Received(received.is_repeat, received.is_entered, received.delivered)
+        return self._received("receive_loaded", _number(first, 64), _number(length, 64))
 
-    def receive_parts(self, first: int, lengths: Sequence[int]) -> int:
+    def receive_parts(self, first: int, lengths: Sequence[int]) -> tuple[int, Output]:
         """Takes parts of the loaded bytes in one call, one after another as `receive_loaded` takes one: the first part from the byte that
-        has `first` before it, each other from the end of the one before it on, and `lengths` says how long each is. Tells how many were
-        taken. One at least is, else the refusal is that of the first part, and nothing has changed. A part that leaves frames to be sent is
-        the last that is taken. Else fewer than all are taken where the next part is refused: call again from that part on."""
+        has `first` before it, each other from the end of the one before it on, and `lengths` says how long each is. Answers how many were
+        taken, and what they did. One at least is, else the refusal is that of the first part, and nothing has changed. A part that leaves
+        frames to be sent is the last that is taken. Else fewer than all are taken where the next part is refused: call again from that part
+        on."""
         numbers, taken = [_number(value, 64) for value in (first, *lengths)], c_size_t()
         given = (c_size_t * (len(numbers) - 1))(*numbers[1:])
-        with self._lock:
-            self._enter("receive_parts", numbers[0], given, len(given), byref(taken))
-        return taken.value
+        output = self._done("receive_parts", numbers[0], given, len(given), byref(taken))
+        return taken.value, output
 
-    def tick(self) -> None:
-        """The frames to be sent are the status, to all others, and a request to each member of whom something is missing."""
-        with self._lock:
-            self._enter("tick")
+    def tick(self) -> Output:
+        """The frames are the status, to all others, and a request to each member of whom something is missing."""
+        return self._done("tick")
 
-    def help(self, member: int) -> None:
-        """Asks a third member for the missing casts of another member, for where that one is silent: the one frame to be sent goes to the
-        first member, other than both, that is known to have delivered the first of them. There is none where none is missing, or nobody
-        is known to have it. The member and its events stay as they are."""
-        with self._lock:
-            self._call("help", _number(member, 32))
+    def help(self, member: int) -> Output:
+        """Asks a third member for the missing casts of another member, for where that one is silent: the one frame is for the first member,
+        other than both, that is known to have delivered the first of them. There is none where none is missing, or nobody is known to
+        have it. The member stays as it is."""
+        return self._done("help", _member(member))
 
     def counts(self) -> Counts:
+        counts = jolunza_counts()
         with self._lock:
-            return self._count()
-
-    def frames(self) -> list[Frame]:
-        """The frames to be sent of the last call of `cast`, `cast_burst`, `receive`, `tick` or `help` that was done."""
-        with self._lock:
-            frames: list[Frame] = []
-            more = self._frames(0)
-            while more:
-                frames.extend(more)
-                more = self._frames(len(frames))
-            return frames
+            self._call("count", byref(counts))
+        return Counts(counts.events, counts.entries)
 
     def events(self, first: int = 0) -> Iterator[Event]:
-        """The casts and deliveries in their order, from the one that has `first` before it; without a history those of the last call."""
+        """The casts and deliveries of the history in order, from the one that has `first` before it. Without a history there are those that
+        `counts` says: before its first call a member that came back has all of its journal."""
         with self._lock:
             more = self._events(_number(first, 64))
         while more:
@@ -557,7 +568,7 @@ class Member:
                 more = self._events(first)
 
     def entries(self, first: int = 0) -> Iterator[Entry]:
-        """The history in its order, from the entry that has `first` before it; without one the entry of the last call, if it has one."""
+        """The history in its order, from the entry that has `first` before it. Without a history there are those that `counts` says."""
         for index in range(_number(first, 64), self.counts().entries):
             with self._lock:
                 entry = self._entry(index, self._MANY)
@@ -568,50 +579,38 @@ class Member:
         time = (c_uint32 * MOST_MEMBERS)()
         with self._lock:
             self._call("time", time, MOST_MEMBERS)
-        return tuple(time[: self._size])
+        return tuple(time[: self.settings.size])
 
     def stable(self) -> int:
         """How many own casts every other member is known to have delivered."""
-        count = c_uint32()
-        with self._lock:
-            self._call("stable", byref(count))
-        return count.value
+        return self._read("stable")
 
     def stable_of(self, member: int) -> int:
         """How many casts of a member every member other than it is known to have delivered; of this one as `stable`."""
-        count = c_uint32()
-        with self._lock:
-            self._call("stable_of", _number(member, 32), byref(count))
-        return count.value
+        return self._read("stable_of", _member(member))
 
     def acknowledged_by(self, member: int) -> int:
         """How many of this member's casts a member is known to have delivered; this one has delivered all."""
-        count = c_uint32()
-        with self._lock:
-            self._call("acknowledged_by", _number(member, 32), byref(count))
-        return count.value
+        return self._read("acknowledged_by", _member(member))
 
     def keeps_window_full(self, member: int) -> bool:
-        """Whether another member keeps the window full: it is not known to have delivered any of the last casts of this one, of as
-        many as the window is wide."""
+        """Whether another member keeps the window full: as far as is known it has delivered none of the last casts of this one, a window's
+        width of them."""
         full = c_bool()
         with self._lock:
-            self._call("keeps_window_full", _number(member, 32), byref(full))
+            self._call("keeps_window_full", _member(member), byref(full))
         return full.value
 
     def waiting(self) -> int:
         """How many messages wait: they were received and are not delivered, since something before them is missing."""
-        count = c_uint32()
-        with self._lock:
-            self._call("waiting", byref(count))
-        return count.value
+        return self._read("waiting")
 
     def waits_for(self, member: int) -> Optional[Delayed]:
-        """The first message of a member that waits, and what it waits for; None where none of it waits, and of who is no member."""
+        """The first message of a member that waits, and what it waits for; None where none of its messages waits."""
         delayed = jolunza_delayed()
         try:
             with self._lock:
-                self._call("waits_for", _number(member, 32), byref(delayed))
+                self._call("waits_for", _member(member), byref(delayed))
         except Refusal as refusal:
             if refusal.code is Code.NONE_THERE:
                 return None
@@ -622,7 +621,7 @@ class Member:
     def missing(self, member: int) -> list[range]:
         """The numbers of the casts of another member that are missing, in rising ranges."""
         with self._lock:
-            return self._missing(_number(member, 32), self._MANY)
+            return self._missing(_member(member), self._MANY)
 
     def journal_head(self) -> bytes:
         """The first line of the member's journal, with its line feed."""
@@ -630,56 +629,76 @@ class Member:
             return self._line("journal_head")
 
     def journal_line(self, index: int) -> bytes:
-        """The line of an entry in the member's journal, with its line feed; NONE_THERE where there is no such entry. Entries are counted
-        from 0, without a history those of the last call."""
+        """The line of an entry of `entries` in the member's journal, with its line feed; the first entry has 0. NONE_THERE if there is none.
+        Without a history keep the lines of a call before the next call is made."""
         with self._lock:
             return self._line("journal_line", _number(index, 64))
 
-    def _lines(self, written: int) -> tuple[bytes, int]:
-        """The lines of the entries that are not in the journal yet, which has so many; without a history so many of those that were added
-        since the member was opened or came back. And how many it has then."""
-        with self._lock:
-            entries = self._count().entries
-            added = entries if self.keeps_history else self._entered
-            first = entries + written - added
-            if first < 0:
-                raise LeftOut("an entry is lost: nothing was appended between two calls")
-            return b"".join(self._line("journal_line", index) for index in range(first, entries)), added
+    def _received(self, name: str, *given: Any) -> Output:
+        received = jolunza_received()
+        output = self._done(name, *given, byref(received))
+        return output._replace(is_repeat=received.is_repeat)
 
-    def _enter(self, name: str, *given: Any) -> None:
-        """A call that can add entries. Without a history only those of the last of them can be read."""
+    def _done(self, name: str, *given: Any) -> Output:
+        """Makes a call, and copies what it did before another thread makes the next one."""
+        with self._lock:
+            # without a history only those of this call are counted; a help leaves those of the call before
+            before = self._count() if self.keeps_history or name == "help" else jolunza_counts()
+            after = self._kept(before, name, *given)
+            events = self._all_events(before.events, after.events)
+            return Output(self._frames(after.frames), events, False, after.entries > before.entries)
+
+    def _kept(self, before: jolunza_counts, name: str, *given: Any) -> jolunza_counts:
+        """Makes a call, and what comes before anything of it is sent; counts then."""
         self._call(name, *given)
-        if not self.keeps_history:
-            self._entered += self._count().entries
+        return self._count()
+
+    def _code(self, name: str, *given: Any) -> Any:
+        return getattr(self._library, f"jolunza_{name}")(self._handle, *given)
 
     def _call(self, name: str, *given: Any) -> None:
-        code = getattr(self._library, f"jolunza_{name}")(self._handle, *given)
+        code = self._code(name, *given)
         if code:
-            raise Refusal(Code(code))
+            raise Refusal(Code(code), name)
 
-    def _count(self) -> Counts:
+    def _read(self, name: str, *given: int) -> int:
+        """The number that a reading fills in."""
+        number = c_uint32()
+        with self._lock:
+            self._call(name, *given, byref(number))
+        return number.value
+
+    def _count(self) -> jolunza_counts:
+        """How many there are; none where the member is closed."""
         counts = jolunza_counts()
-        self._call("count", byref(counts))
-        return Counts(counts.frames, counts.events, counts.entries)
+        self._code("count", byref(counts))
+        return counts
 
-    def _frames(self, first: int) -> list[Frame]:
-        heads, count = (jolunza_frame_head * self._MANY)(), c_size_t()
-        self._call("frames", first, heads, self._MANY, self._bytes, len(self._bytes), byref(count))
-        frames, at = [], 0
-        for head in heads[: count.value]:
-            frames.append(Frame(None if head.to_all else head.to, self._view[at : at + head.length].tobytes()))
-            at += head.length
-        return frames
+    def _frames(self, many: int) -> tuple[Frame, ...]:
+        """All frames of the last call."""
+        frames: list[Frame] = []
+        while len(frames) < many:
+            heads, count = (jolunza_frame_head * self._MANY)(), c_size_t()
+            self._call("frames", len(frames), heads, self._MANY, self._bytes, len(self._bytes), byref(count))
+            at = 0
+            for head in heads[: count.value]:
+                frames.append(Frame(None if head.to_all else head.to, self._view[at : at + head.length].tobytes()))
+                at += head.length
+        return tuple(frames)
+
+    def _all_events(self, first: int, end: int) -> tuple[Event, ...]:
+        events: list[Event] = []
+        while first + len(events) < end:
+            events += self._events(first + len(events))
+        return tuple(events)
 
     def _events(self, first: int) -> list[Event]:
-        heads, count = (jolunza_event_head * self._MANY)(), c_size_t()
-        times = (c_uint32 * (self._MANY * self._size))()
-        self._call(
-            "events", first, heads, self._MANY, self._bytes, len(self._bytes), times, len(times), byref(count)
-        )
+        size, heads, count = self.settings.size, (jolunza_event_head * self._MANY)(), c_size_t()
+        times = (c_uint32 * (self._MANY * size))()
+        self._call("events", first, heads, self._MANY, self._bytes, len(self._bytes), times, len(times), byref(count))
         events, at = [], 0
         for index, head in enumerate(heads[: count.value]):
-            time = tuple(times[index * self._size : (index + 1) * self._size])
+            time = tuple(times[index * size : (index + 1) * size])
             payload = self._view[at : at + head.length].tobytes()
             events.append(Event(head.is_own, Name(head.sender, head.number), time, payload))
             at += head.length
@@ -709,100 +728,101 @@ class Member:
         return [range(found.first, found.last + 1) for found in ranges[: count.value]]
 
 
-class Journal:
-    """The file of what a member did, by which it comes back after its process was killed. `append` after each call that was done, and only
-    then send its frames and show its events.
+class Journal(Member):
+    """A member with a file of what it did, by which it comes back after its process was killed. A call writes its lines and waits until
+    they are on the disk; only then it answers. The file has all that was sent and shown. Before the first call `events` has all of it.
 
-    Opens the member of the journal, as `member`: all its events can be read. The file is cut behind its whole lines; one that is not
-    there, or has nothing but a part of the head line, is begun. What is no journal, or one of another member, is raised and stays as it
-    is: a `Refusal`, or `OtherJournal`. Who opens the file while another has it gets a BlockingIOError: else one member would be there
-    twice.
+    The file is cut after its whole lines; one that is not there, or has nothing but a part of the head line, is begun. A file that is no
+    journal, or that of another member, stays as it is: a `Refusal`, or `OtherJournal`. While the journal is open, another one that opens
+    the file gets a `LockedJournal`.
+
+    After a fault of the file, or an exception that a signal handler raises before the lines are known to be on the disk, each call raises
+    a `JournalFault`, and nothing is written: close it, and open it anew.
     """
 
-    def __init__(self, path: str, settings: Settings, history_max: int = 1_000_000) -> None:
-        self._lock = threading.Lock()
-        self._fault: Optional[BaseException] = None
-        self._file = open(path, "a+b", buffering=0)
-        try:
-            fcntl.flock(self._file, fcntl.LOCK_EX | fcntl.LOCK_NB)
-            self._member = self._opened(settings, history_max)
-            self._sync(path)
-        except BaseException:
-            self._file.close()
-            raise
-        self._written = self._member.counts().entries if self._member.keeps_history else 0
+    def __init__(self, path: Union[str, os.PathLike[str]], settings: Settings, history_max: int = 0) -> None:
+        self._path = os.fsdecode(path)
+        self._fault: Optional[JournalFault] = None
+        with _faults_of(self._path):
+            self._file = open(self._path, "a+b", buffering=0)
+            try:
+                fcntl.flock(self._file, fcntl.LOCK_EX | fcntl.LOCK_NB)
+                self._prepare(history_max)
+                self._come_back(settings)
+                self._sync_folder()
+            except BaseException:
+                self._file.close()
+                raise
 
-    @property
-    def member(self) -> Member:
-        """The member whose journal it is. The entries of no other are written."""
-        return self._member
+    def __repr__(self) -> str:
+        return f"Journal({self._path!r}, {self.settings!r}, history_max={self._history_max})"
 
-    def __enter__(self) -> Journal:
-        return self
+    def close(self) -> None:
+        """Frees the member, and closes the file, which others can open then."""
+        super().close()
+        self._file.close()
 
-    def __exit__(
-        self, kind: Optional[type[BaseException]], raised: Optional[BaseException], trace: Optional[TracebackType]
-    ) -> None:
-        self.close()
-
-    def _opened(self, settings: Settings, history_max: int) -> Member:
+    def _come_back(self, settings: Settings) -> None:
         self._file.seek(0)
         text = self._file.read()
         try:
-            back = Member.resume(text, history_max)
+            read = self._resume(text, self._path)
         except Refusal as refusal:
-            if refusal.code != Code.NO_HEAD:
+            if refusal.code is not Code.NO_HEAD:
                 raise
-            return self._begun(text, settings, history_max)
-        if back.settings != settings:
-            raise OtherJournal(back.settings)
-        self._file.truncate(back.read)
-        return back.member
+            return self._begin(text, settings)
+        if self.settings != settings:
+            raise OtherJournal(self._path, self.settings)
+        self._file.truncate(read.read)
+        os.fsync(self._file.fileno())
 
-    def _begun(self, text: bytes, settings: Settings, history_max: int) -> Member:
-        member = Member(*settings, history_max)
-        head = member.journal_head()
+    def _begin(self, text: bytes, settings: Settings) -> None:
+        self._open(settings)
+        head = self.journal_head()
         if not head.startswith(text):
-            raise Refusal(Code.BAD_LINE, 1)
+            raise Refusal(Code.BAD_LINE, "resume", 1, self._path)
         self._file.truncate(0)
         self._write(head)
-        return member
 
-    def _sync(self, path: str) -> None:
+    def _sync_folder(self) -> None:
         """The name of a file that was made outlasts a failure of power as its bytes do."""
-        os.fsync(self._file.fileno())
-        folder = os.open(os.path.dirname(path) or ".", os.O_RDONLY)
+        folder = os.open(os.path.dirname(self._path) or ".", os.O_RDONLY)
         try:
             os.fsync(folder)
         finally:
             os.close(folder)
 
-    def close(self) -> None:
-        """Closes the file, which others can open then. The member stays."""
-        self._file.close()
-
-    def append(self) -> None:
-        """Writes the lines of the entries that are not written yet, which are on the disk when this is done. Without a history it is to be
-        called after each call: the entries of an earlier one can't be read any more.
-
-        From the first fault on it writes nothing and raises that fault. Then nothing may be sent any more: end, and come back."""
-        with self._lock:
-            if self._fault:
-                raise self._fault
-            try:
-                self._append()
-            except BaseException as fault:
-                self._fault = fault
-                raise
-
-    def _append(self) -> None:
-        lines, written = self._member._lines(self._written)
-        if lines:
-            self._write(lines)
-            os.fsync(self._file.fileno())
-        self._written = written
+    def _kept(self, before: jolunza_counts, name: str, *given: Any) -> jolunza_counts:
+        """From before a call until its lines are on the disk it is unknown whether they are: an exception can come at any time."""
+        if self._fault:
+            raise self._fault.with_traceback(None)
+        self._fault = JournalFault(self._path, "a call was cut short, and its lines may be missing: close it, and open it anew")
+        code = self._code(name, *given)
+        after = before if code else self._count()
+        try:
+            self._write(b"".join(self._line("journal_line", index) for index in range(before.entries, after.entries)))
+        except (OSError, Refusal) as fault:
+            self._fault = JournalFault(self._path, f"the lines of a call are not written: {fault}")
+            raise self._fault from fault
+        self._fault = None
+        if code:
+            raise Refusal(Code(code), name)
+        return after
 
     def _write(self, text: bytes) -> None:
         rest = memoryview(text)
         while rest:
             rest = rest[self._file.write(rest) :]
+        if text:
+            os.fsync(self._file.fileno())
+
+
+@contextlib.contextmanager
+def _faults_of(path: str) -> Iterator[None]:
+    """A fault of the system becomes one that names the file."""
+    try:
+        yield
+    except BlockingIOError as fault:
+        raise LockedJournal(path, "another has the journal open") from fault
+    except OSError as fault:
+        raise JournalFault(path, fault.strerror or str(fault)) from fault

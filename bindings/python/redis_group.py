@@ -3,8 +3,8 @@
     redis_group.py PORT                          runs all of it, and looks at the three screens
     redis_group.py PORT member ME JOURNAL        one member: casts its lines, and prints each line that it casts or is brought
 
-Pub/sub hands a frame to who listens now, and keeps nothing. What a member lost while it was away it asks the others for.
-`redis.sh` begins a server on a free port, runs this, and ends the server.
+Pub/sub brings a frame to the connections that listen now, and keeps nothing. A member asks the others for what it lost while it was
+away. `redis.sh` begins a server on a free port, runs this, and ends the server. It wants the module `redis` (Debian's python3-redis).
 """
 
 from __future__ import annotations
@@ -12,15 +12,16 @@ from __future__ import annotations
 import os
 import queue
 import re
-import socket
 import subprocess
 import sys
 import tempfile
 import threading
 import time
-from typing import Any, Callable, Iterator, Optional
+from typing import Callable, Iterable, Iterator, Optional
 
-from jolunza import Code, Frame, Journal, Refusal, Settings
+import redis
+
+from jolunza import Event, Frame, Journal, Output, Refusal, Settings
 
 GROUP, SIZE, WINDOW = 7, 3, 16
 LINES_OF_EACH = 40
@@ -29,35 +30,8 @@ PAUSE, TICK, PATIENCE = 0.02, 0.05, 60.0  # seconds
 KILLED = 1
 
 
-class Redis:
-    """One connection to a redis server: requests and answers as its protocol (RESP) spells them."""
-
-    def __init__(self, port: int) -> None:
-        self._socket = socket.create_connection(("127.0.0.1", port))
-        self._answers = self._socket.makefile("rb")
-
-    def send(self, *words: bytes) -> None:
-        spelled = [b"$%d\r\n%s\r\n" % (len(word), word) for word in words]
-        self._socket.sendall(b"*%d\r\n" % len(words) + b"".join(spelled))
-
-    def answer(self) -> Any:
-        line = self._answers.readline()
-        kind, rest = line[:1], line[1:-2]
-        if not line.endswith(b"\r\n") or kind == b"-":
-            raise ConnectionError(rest.decode() or "the server is gone")
-        if kind == b"$":
-            return self._answers.read(int(rest) + 2)[:-2]
-        if kind == b"*":
-            return [self.answer() for _ in range(int(rest))]
-        return int(rest) if kind == b":" else rest
-
-    def ask(self, *words: bytes) -> Any:
-        self.send(*words)
-        return self.answer()
-
-
-def channel(to: Optional[int]) -> bytes:
-    return b"jolunza.%d.all" % GROUP if to is None else b"jolunza.%d.%d" % (GROUP, to)
+def channel(to: Optional[int]) -> str:
+    return f"jolunza.{GROUP}.{'all' if to is None else to}"
 
 
 class Link:
@@ -65,74 +39,64 @@ class Link:
 
     def __init__(self, port: int, me: int) -> None:
         self.arrived: queue.Queue[bytes] = queue.Queue()
-        self._port = port
-        self._redis: Optional[Redis] = None
+        self._redis = redis.Redis(port=port)
         threading.Thread(target=self._listen, args=(me,), daemon=True).start()
 
     def send(self, frame: Frame) -> None:
         try:
-            self._redis = self._redis or Redis(self._port)
-            self._redis.ask(b"PUBLISH", channel(frame.to), frame.bytes)
-        except OSError:
-            self._redis = None
+            self._redis.publish(channel(frame.to), frame.bytes)
+        except redis.RedisError:
+            pass  # it is asked for again
 
     def _listen(self, me: int) -> None:
         while True:
             try:
-                self._take(me)
-            except OSError:
+                with self._redis.pubsub(ignore_subscribe_messages=True) as listening:
+                    listening.subscribe(channel(None), channel(me))
+                    for message in listening.listen():
+                        self.arrived.put(message["data"])
+            except redis.RedisError:
                 time.sleep(TICK)
-
-    def _take(self, me: int) -> None:
-        redis = Redis(self._port)
-        redis.send(b"SUBSCRIBE", channel(None), channel(me))
-        while True:
-            kind, _, given = redis.answer()
-            if kind == b"message":
-                self.arrived.put(given)
 
 
 class Speaker:
     """A member that says its lines: every second one, where there is a line of another, answers the last of these."""
 
     def __init__(self, port: int, me: int, path: str) -> None:
-        self._me, self._shown, self._last = me, 0, ""
+        self._me, self._last = me, ""
         self._journal = Journal(path, Settings(GROUP, SIZE, WINDOW, me))
-        self._member = self._journal.member
-        self._show()
+        self._show(self._journal.events())  # before its first call: all that it did before it was killed
         self._link = Link(port, me)
 
-    def call(self, call: Callable[..., object], *given: bytes) -> None:
-        """A frame that is refused is dropped, and a line for which the window is full is said later: the caller tries again."""
+    def call(self, call: Callable[..., Output], *given: bytes) -> None:
+        """A frame at fault is dropped. A line for which the window is full is said later: the caller tries again."""
         try:
-            call(*given)
+            output = call(*given)
         except Refusal as refusal:
-            if refusal.code in (Code.CLOSED, Code.HISTORY_FULL):
+            if not (refusal.is_frame_fault or refusal.is_transient):
                 raise
             return
-        self._journal.append()
-        self._show()
-        for frame in self._member.frames():
+        self._show(output.events)
+        for frame in output.frames:
             self._link.send(frame)
 
     def take(self) -> None:
         try:
-            self.call(self._member.receive, self._link.arrived.get(timeout=PAUSE))
+            self.call(self._journal.receive, self._link.arrived.get(timeout=PAUSE))
         except queue.Empty:
             pass
 
     def speak(self) -> None:
-        number = self._member.time()[self._me] + 1
+        number = self._journal.time()[self._me] + 1
         if number <= LINES_OF_EACH:
             answers = f"re {self._last} " if self._last and number % 2 else ""
-            self.call(self._member.cast, f"{answers}line {number} of {self._me}".encode())
+            self.call(self._journal.cast, f"{answers}line {number} of {self._me}".encode())
 
     def tick(self) -> None:
-        self.call(self._member.tick)
+        self.call(self._journal.tick)
 
-    def _show(self) -> None:
-        for event in self._member.events(self._shown):
-            self._shown += 1
+    def _show(self, events: Iterable[Event]) -> None:
+        for event in events:
             self._last = self._last if event.is_own else str(event.name)
             print(event.name, event.payload.decode(), flush=True)
 
@@ -202,8 +166,9 @@ def faults(screens: list[list[str]], before: list[str]) -> Iterator[str]:
 
 def drop_connections(port: int) -> None:
     """The server closes those of all members, of both kinds."""
-    for kind in (b"pubsub", b"normal"):
-        Redis(port).ask(b"CLIENT", b"KILL", b"TYPE", kind)
+    with redis.Redis(port=port) as server:
+        for kind in ("pubsub", "normal"):
+            server.client_kill_filter(_type=kind)
 
 
 def run_group(port: int, folder: str, screens: list[Screen]) -> str:

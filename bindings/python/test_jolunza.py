@@ -1,34 +1,49 @@
-"""Tests of the module, and of what redis_group.py says of screens: python3 -m unittest"""
+"""Tests of the module: python3 -m unittest"""
 
 from __future__ import annotations
 
+import _ctypes
 import contextlib
 import copy
-import ctypes
 import doctest
 import io
 import os
+import pickle
 import random
 import resource
 import tempfile
 import threading
 import time
 import unittest
-from typing import Any, Callable, Iterator, Optional
+from typing import Any, Callable, Iterable, Iterator, NamedTuple, Optional
 from unittest import mock
 
 import jolunza
-import redis_group
 import three_members
-from jolunza import Awaited, Code, Counts, Delayed, Entry, Event, Frame, Journal, Kind, LeftOut, Member, Name, OtherJournal
-from jolunza import Received, Refusal, Settings
+from jolunza import Awaited, Code, Counts, Delayed, Entry, Event, Frame, JolunzaError, JournalFault, Kind, LockedJournal, Member, Name
+from jolunza import OtherJournal, Output, Refusal, Settings
 
 HI = bytes.fromhex("11 07 00 01 00 02 68 69")
 YO = bytes.fromhex("11 07 01 01 01 00 01 02 79 6f")
 HI_YO = bytes.fromhex("21 07 00 01 00 02 02 68 69 02 79 6f")
 A_B = bytes.fromhex("21 07 01 01 01 00 02 02 01 61 01 62")
 HELP = bytes.fromhex("23 07 02 01 00 01 00 01")
-CHANGED, UNCHANGED = Received(False, True, 0), Received(False, False, 0)
+NOTHING = Output((), (), False, False)
+
+
+class Did(NamedTuple):
+    """The parts of an output that many tests look at."""
+
+    is_repeat: bool
+    is_entered: bool
+    delivered: int
+
+
+CHANGED, UNCHANGED, REPEAT = Did(False, True, 0), Did(False, False, 0), Did(True, False, 0)
+
+
+def did(output: Output) -> Did:
+    return Did(output.is_repeat, output.is_entered, len(output.events))
 
 
 def opened(me: int, window: int = 4, history_max: int = 100_000) -> Member:
@@ -45,11 +60,8 @@ def after(me: int, *frames: bytes, window: int = 4) -> Member:
 
 def that_cast(me: int, *payloads: bytes, window: int = 4) -> tuple[Member, list[bytes]]:
     """A member, and the frames of its casts."""
-    member, frames = opened(me, window), []
-    for payload in payloads:
-        member.cast(payload)
-        frames += [frame.bytes for frame in member.frames()]
-    return member, frames
+    member = opened(me, window)
+    return member, [frame.bytes for payload in payloads for frame in member.cast(payload).frames]
 
 
 def calls(member: Member) -> tuple[Callable[[], object], ...]:
@@ -64,7 +76,6 @@ def calls(member: Member) -> tuple[Callable[[], object], ...]:
         member.tick,
         lambda: member.help(1),
         member.counts,
-        member.frames,
         lambda: list(member.events()),
         lambda: list(member.entries()),
         member.time,
@@ -110,12 +121,12 @@ class Case(unittest.TestCase):
         if isinstance(answer, Code):
             self.refuses(answer, member, Member.receive, frame)
         else:
-            self.assertEqual(member.receive(frame), answer, given)
+            self.assertEqual(did(member.receive(frame)), answer, given)
 
 
 def state(member: Member) -> tuple[object, ...]:
     """All that can be read of it."""
-    read = (member.counts(), member.frames(), list(member.events()), list(member.entries()))
+    read = (member.counts(), list(member.events()), list(member.entries()))
     return (*read, member.time(), member.stable(), [member.stable_of(other) for other in range(3)], missing(member))
 
 
@@ -125,27 +136,18 @@ def watched(member: Member) -> tuple[object, ...]:
     return (member.waiting(), [[read(other) for read in reads] for other in range(3)])
 
 
-def helps(member: Member) -> list[list[Frame]]:
-    """Whom it asks for what is missing of each other member of a group of three. What its last call left to be sent is gone then."""
-    asked = []
-    for other in range(3):
-        try:
-            member.help(other)
-        except Refusal:
-            continue  # itself
-        asked.append(member.frames())
-    return asked
+def others(member: Member) -> list[int]:
+    return [other for other in range(3) if other != member.settings.me]
+
+
+def helps(member: Member) -> list[tuple[Frame, ...]]:
+    """Whom it asks for what is missing of each other member of a group of three."""
+    return [member.help(other).frames for other in others(member)]
 
 
 def missing(member: Member) -> list[list[range]]:
     """Of each other member of a group of three."""
-    found = []
-    for other in range(3):
-        try:
-            found.append(member.missing(other))
-        except Refusal:
-            pass  # itself
-    return found
+    return [member.missing(other) for other in others(member)]
 
 
 class WorkedExamples(Case):
@@ -153,45 +155,43 @@ class WorkedExamples(Case):
 
     def test_a_cast(self) -> None:
         member = opened(0)
-        told = [0, 0, 0], [[], []]
-        self.assertEqual(state(member), (Counts(0, 0, 0), [], [], [], (0, 0, 0), 0, *told))
-        member.cast(b"hi")
+        nothing_known: list[object] = [0, [0, 0, 0], [[], []]]
+        self.assertEqual(state(member), (Counts(0, 0), [], [], (0, 0, 0), *nothing_known))
         event = Event(True, Name(0, 1), (1, 0, 0), b"hi")
-        entry = Entry(Kind.CAST, HI, ())
-        self.assertEqual(state(member), (Counts(1, 1, 1), [Frame(None, HI)], [event], [entry], (1, 0, 0), 0, *told))
+        self.assertEqual(member.cast(b"hi"), Output((Frame(None, HI),), (event,), False, True))
+        self.assertEqual(state(member), (Counts(1, 1), [event], [Entry(Kind.CAST, HI, ())], (1, 0, 0), *nothing_known))
 
     def test_a_payload_without_bytes(self) -> None:
         member = opened(0)
-        for given in (b"", bytearray(), memoryview(b"")):
-            member.cast(given)
-        self.assertEqual(member.frames(), [Frame(None, bytes.fromhex("11 07 00 03 00 00"))])
+        for number, given in enumerate((b"", bytearray(), memoryview(b"")), 1):
+            output = member.cast(given)
+            self.assertEqual(output.frames, (Frame(None, bytes([0x11, 7, 0, number, 0, 0])),))
         self.assertEqual([event.payload for event in member.events()], [b"", b"", b""])
 
     def test_a_burst(self) -> None:
         member = opened(0)
-        member.cast_burst((b"hi", memoryview(b"yo")))
-        events = [Event(True, Name(0, 1), (1, 0, 0), b"hi"), Event(True, Name(0, 2), (2, 0, 0), b"yo")]
-        entry = Entry(Kind.CAST, HI_YO, ())
-        told = [0, 0, 0], [[], []]
-        self.assertEqual(state(member), (Counts(1, 2, 1), [Frame(None, HI_YO)], events, [entry], (2, 0, 0), 0, *told))
+        events = (Event(True, Name(0, 1), (1, 0, 0), b"hi"), Event(True, Name(0, 2), (2, 0, 0), b"yo"))
+        self.assertEqual(member.cast_burst((b"hi", memoryview(b"yo"))), Output((Frame(None, HI_YO),), events, False, True))
+        read = Counts(2, 1), [*events], [Entry(Kind.CAST, HI_YO, ())], (2, 0, 0)
+        self.assertEqual(state(member), (*read, 0, [0, 0, 0], [[], []]))
 
     def test_a_burst_answers_a_burst(self) -> None:
         member = after(1, HI_YO)
-        member.cast_burst([b"a", b"b"])
-        self.assertEqual(member.frames(), [Frame(None, A_B)])
-        self.assertEqual([event.time for event in member.events(2)], [(2, 1, 0), (2, 2, 0)])
-        member.cast(b"c")
-        self.assertEqual(member.frames(), [Frame(None, bytes.fromhex("11 07 01 03 00 01 63"))])
+        output = member.cast_burst([b"a", b"b"])
+        self.assertEqual(output.frames, (Frame(None, A_B),))
+        self.assertEqual([event.time for event in output.events], [(2, 1, 0), (2, 2, 0)])
+        self.assertEqual(list(member.events(2)), [*output.events])
+        self.assertEqual(member.cast(b"c").frames, (Frame(None, bytes.fromhex("11 07 01 03 00 01 63")),))
 
     def test_a_burst_that_overtakes_waits_as_a_whole(self) -> None:
         member = opened(2)
-        self.assertEqual(member.receive(A_B), CHANGED)
-        self.assertEqual(member.receive(HI_YO), Received(False, True, 4))
+        self.assertEqual(did(member.receive(A_B)), CHANGED)
+        self.assertEqual(did(member.receive(HI_YO)), Did(False, True, 4))
         names = (Name(0, 1), Name(0, 2), Name(1, 1), Name(1, 2))
         self.assertEqual(list(member.entries()), [Entry(Kind.ARRIVE, A_B, ()), Entry(Kind.ARRIVE, HI_YO, names)])
         self.assertEqual([event.time for event in member.events()], [(1, 0, 0), (2, 0, 0), (2, 1, 0), (2, 2, 0)])
         for again in (HI_YO, A_B):
-            self.assertEqual(member.receive(again), Received(True, False, 0))
+            self.assertEqual(member.receive(again), NOTHING._replace(is_repeat=True))
 
     def test_a_burst_of_which_a_part_is_there(self) -> None:
         member = opened(2)
@@ -201,17 +201,17 @@ class WorkedExamples(Case):
             ("21 07 00 01 00 02 00 00", Code.OVERLAP),
             ("21 07 00 01 00 00", Code.MALFORMED),
             ("21 07 00 01 00 21", Code.MALFORMED),
-            ("11 07 00 01 00 00", Received(False, True, 2)),
+            ("11 07 00 01 00 00", Did(False, True, 2)),
         ]
         for given, answer in rows:
             self.answers(member, given, answer)
 
     def test_an_answer_waits_for_its_question(self) -> None:
         member = opened(2)
-        self.assertEqual(member.receive(YO), CHANGED)
+        self.assertEqual(member.receive(YO), NOTHING._replace(is_entered=True))
         self.assertEqual((list(member.events()), member.missing(0), member.missing(1)), ([], [range(1, 2)], []))
-        self.assertEqual(member.receive(HI), Received(False, True, 2))
         events = [Event(False, Name(0, 1), (1, 0, 0), b"hi"), Event(False, Name(1, 1), (1, 1, 0), b"yo")]
+        self.assertEqual(member.receive(HI), Output((), tuple(events), False, True))
         self.assertEqual(list(member.events()), events)
         self.assertEqual([str(event.name) for event in events], ["0.1", "1.1"])
         entries = [Entry(Kind.ARRIVE, YO, ()), Entry(Kind.ARRIVE, HI, (Name(0, 1), Name(1, 1)))]
@@ -221,7 +221,7 @@ class WorkedExamples(Case):
     def test_what_arrives_is_refused_by_the_first_rule_that_it_breaks(self) -> None:
         member, _ = that_cast(0, b"hi")
         rows: list[tuple[str, object]] = [
-            ("11 07 00 01 00 02 68 69", Received(True, False, 0)),
+            ("11 07 00 01 00 02 68 69", REPEAT),
             ("12 07 00 01 00 01", UNCHANGED),
             ("11 07 00 09 00 00", Code.IMPOSSIBLE),
             ("12 07 01 01 00 02", Code.IMPOSSIBLE),
@@ -232,53 +232,49 @@ class WorkedExamples(Case):
             ("11 07 40", Code.MALFORMED),
             ("", Code.MALFORMED),
             ("11 07 01 02 00 02 6f 6b", CHANGED),
-            ("11 07 01 01 01 00 01 02 79 6f", Received(False, True, 2)),
+            ("11 07 01 01 01 00 01 02 79 6f", Did(False, True, 2)),
         ]
         for given, answer in rows:
             self.answers(member, given, answer)
         self.assertEqual((member.time(), member.stable()), ((1, 2, 0), 0))
         self.answers(member, "12 07 02 01 00 01", CHANGED)
         self.assertEqual(member.stable(), 1)
-        self.answers(member, "13 07 02 00 01 00 00", UNCHANGED)
-        self.assertEqual(member.frames(), [])
+        self.assertEqual(member.receive(bytes.fromhex("13 07 02 00 01 00 00")), NOTHING)
 
     def test_a_tick_says_a_status_and_asks_for_what_is_missing(self) -> None:
         member = opened(2)
-        for entries in (1, 1):
-            member.tick()
-            self.assertEqual(member.frames(), [Frame(None, bytes.fromhex("12 07 02 00"))])
-            self.assertEqual(member.counts(), Counts(1, 0, entries))
+        for is_entered in (True, False):
+            self.assertEqual(member.tick(), Output((Frame(None, bytes.fromhex("12 07 02 00")),), (), False, is_entered))
+            self.assertEqual(member.counts(), Counts(0, 1))
         _, (first, second, _, fourth) = that_cast(0, b"a", b"b", b"c", b"d")
         for frames, status, request in (
             ((first, fourth), "12 07 02 01 00 01", "13 07 02 00 01 01 01"),
             ((second, fourth), "12 07 02 00", "13 07 02 00 02 00 00 00 00"),
         ):
             member = after(2, *frames)
-            member.tick()
-            self.assertEqual(member.frames(), [Frame(None, bytes.fromhex(status)), Frame(0, bytes.fromhex(request))])
+            self.assertEqual(member.tick().frames, (Frame(None, bytes.fromhex(status)), Frame(0, bytes.fromhex(request))))
         self.assertEqual(list(member.entries())[-1], Entry(Kind.TICK, bytes.fromhex("12 07 02 00"), ()))
 
     def test_a_request_is_answered_by_the_asked_member(self) -> None:
         member, _ = that_cast(0, b"a", b"b", b"c", b"d")
-        self.answers(member, "13 07 02 00 01 01 01", UNCHANGED)
+        request = bytes.fromhex("13 07 02 00 01 01 01")
         again = ["11 07 00 02 00 01 62", "11 07 00 03 00 01 63"]
-        self.assertEqual(member.frames(), [Frame(2, bytes.fromhex(text)) for text in again])
-        member = opened(1)
-        self.answers(member, "13 07 02 00 01 01 01", UNCHANGED)
-        self.assertEqual(member.frames(), [])
+        self.assertEqual(member.receive(request), NOTHING._replace(frames=tuple(Frame(2, bytes.fromhex(text)) for text in again)))
+        self.assertEqual(opened(1).receive(request), NOTHING)
 
     def test_a_third_member_is_asked_for_what_is_missing(self) -> None:
         for history_max in (100, 0):
             member = opened(2, history_max=history_max)
-            self.assertEqual(helps(member), [[], []])
-            self.assertEqual(member.receive(bytes.fromhex("12 07 01 01 00 02")), CHANGED)
+            self.assertEqual(helps(member), [(), ()])
+            self.assertEqual(did(member.receive(bytes.fromhex("12 07 01 01 00 02"))), CHANGED)
             before = state(member)
-            self.assertEqual(helps(member), [[Frame(1, HELP)], []])
+            self.assertEqual(member.help(0), NOTHING._replace(frames=(Frame(1, HELP),)))
+            self.assertEqual(helps(member), [(Frame(1, HELP),), ()])
             self.assertEqual(state(member), before)
             member.receive(bytes.fromhex("11 07 00 01 00 01 61"))
-            self.assertEqual(helps(member), [[Frame(1, bytes.fromhex("23 07 02 01 00 01 01 00"))], []])
+            self.assertEqual(helps(member), [(Frame(1, bytes.fromhex("23 07 02 01 00 01 01 00")),), ()])
             member.receive(bytes.fromhex("11 07 00 02 00 01 62"))
-            self.assertEqual(helps(member), [[], []])
+            self.assertEqual(helps(member), [(), ()])
 
     def test_what_waits_tells_what_it_waits_for(self) -> None:
         member = after(2, bytes.fromhex("11 07 01 01 01 00 02 00"), bytes.fromhex("11 07 00 03 00 00"))
@@ -286,7 +282,7 @@ class WorkedExamples(Case):
         self.assertEqual(member.waiting(), 2)
         self.assertEqual(member.waits_for(0), Delayed(Name(0, 3), both))
         self.assertEqual(member.waits_for(1), Delayed(Name(1, 1), both))
-        self.assertEqual((member.waits_for(2), member.waits_for(3)), (None, None))
+        self.assertEqual(member.waits_for(2), None)
         member.receive(bytes.fromhex("21 07 00 01 00 02 00 00"))
         self.assertEqual((member.waiting(), member.waits_for(0), member.waits_for(1)), (0, None, None))
         # forged: it counts a message that this member has yet to cast
@@ -297,11 +293,11 @@ class WorkedExamples(Case):
 
     def test_who_delivered_none_of_the_last_casts_keeps_the_window_full(self) -> None:
         member, _ = that_cast(0, b"a", b"b", b"c")
-        self.assertEqual([member.keeps_window_full(other) for other in range(4)], [False] * 4)
+        self.assertEqual([member.keeps_window_full(other) for other in range(3)], [False] * 3)
         member.cast(b"d")
-        self.assertEqual([member.keeps_window_full(other) for other in range(4)], [False, True, True, False])
+        self.assertEqual([member.keeps_window_full(other) for other in range(3)], [False, True, True])
         member.receive(bytes.fromhex("12 07 01 01 00 01"))
-        self.assertEqual([member.keeps_window_full(other) for other in range(4)], [False, False, True, False])
+        self.assertEqual([member.keeps_window_full(other) for other in range(3)], [False, False, True])
         self.assertEqual([member.acknowledged_by(other) for other in range(3)], [4, 1, 0])
 
     def test_a_helper_hands_on_what_it_has_delivered(self) -> None:
@@ -309,14 +305,11 @@ class WorkedExamples(Case):
         for window, handed_on in ((4, frames), (1, frames[1:])):
             member = after(1, *frames, window=window)
             member.cast(b"x")
-            self.assertEqual(member.receive(HELP), UNCHANGED)
-            self.assertEqual(member.frames(), [Frame(2, frame) for frame in handed_on])
+            self.assertEqual(member.receive(HELP), NOTHING._replace(frames=tuple(Frame(2, frame) for frame in handed_on)))
         self.answers(member, "12 07 02 01 00 02", CHANGED)
-        self.assertEqual(member.receive(HELP), UNCHANGED)
-        self.assertEqual((member.stable_of(0), member.frames()), (2, []))
+        self.assertEqual((member.receive(HELP), member.stable_of(0)), (NOTHING, 2))
         member = after(1, *frames[1:])
-        self.assertEqual(member.receive(HELP), UNCHANGED)
-        self.assertEqual(member.frames(), [])
+        self.assertEqual(member.receive(HELP), NOTHING)
         for given, answer in (
             ("23 07 01 01 00 01 00 00", Code.IMPOSSIBLE),
             ("23 07 02 01 02 01 00 00", Code.IMPOSSIBLE),
@@ -337,7 +330,7 @@ class WorkedExamples(Case):
         member.cast(b"hi")
         for given, answer in (
             ("11 07 01 01 00 00", Code.HISTORY_FULL),
-            ("11 07 00 01 00 02 68 69", Received(True, False, 0)),
+            ("11 07 00 01 00 02 68 69", REPEAT),
             ("12 07 01 00", UNCHANGED),
             ("12 07 01 01 02 05", Code.HISTORY_FULL),
         ):
@@ -387,31 +380,18 @@ class Refusals(Case):
         self.refuses(Code.WINDOW_FULL, member, Member.cast_burst, [b"", b""])
         self.refuses(Code.HISTORY_FULL, member, Member.cast_burst, [b""])
 
-    def test_of_what_is_stable(self) -> None:
-        for member in (3, 0xFFFF_FFFF):
-            with self.assertRaises(Refusal) as raised:
-                opened(1).stable_of(member)
-            self.assertEqual(raised.exception.code, Code.BAD_MEMBER)
-
-    def test_of_who_has_acknowledged(self) -> None:
-        for member in (3, 0xFFFF_FFFF):
-            with self.assertRaises(Refusal) as raised:
-                opened(1).acknowledged_by(member)
-            self.assertEqual(raised.exception.code, Code.BAD_MEMBER)
-
-    def test_of_help(self) -> None:
+    def test_of_a_number_that_no_member_has(self) -> None:
         member, _ = that_cast(1, b"hi")
-        before = state(member)
-        for other in (1, 3, 0xFFFF_FFFF):
+        of_others: list[Callable[[Member, int], object]] = [Member.missing, Member.help]
+        of_all = [*of_others, Member.stable_of, Member.acknowledged_by, Member.keeps_window_full, Member.waits_for]
+        for call in of_all:
+            for other in (3, 99, 0xFFFF_FFFF, -1, 1 << 32, (1 << 64) + 1):
+                self.refuses(Code.BAD_MEMBER, member, call, other)
+        for call in of_others:
+            self.refuses(Code.BAD_MEMBER, member, call, 1)
+        for me in (-1, 1 << 32):
             with self.assertRaises(Refusal) as raised:
-                member.help(other)
-            self.assertEqual(raised.exception.code, Code.BAD_MEMBER)
-        self.assertEqual(state(member), before)
-
-    def test_of_missing(self) -> None:
-        for member in (1, 3, 0xFFFF_FFFF):
-            with self.assertRaises(Refusal) as raised:
-                opened(1).missing(member)
+                Member(7, 3, 4, me)
             self.assertEqual(raised.exception.code, Code.BAD_MEMBER)
 
     def test_of_a_closed_member(self) -> None:
@@ -420,7 +400,7 @@ class Refusals(Case):
         for call in calls(member):
             with self.assertRaises(Refusal) as raised:
                 call()
-            self.assertEqual((raised.exception.code, str(raised.exception)), (Code.CLOSED, "CLOSED"))
+            self.assertEqual((raised.exception.code, str(raised.exception)), (Code.CLOSED, "the handle holds no member"))
 
     def test_without_memory(self) -> None:
         """Members are opened until there is no memory. What nobody holds is freed, and then the same call succeeds."""
@@ -450,9 +430,61 @@ class Refusals(Case):
         library = mock.Mock(**{"jolunza_tick.return_value": later})
         with mock.patch.object(member, "_library", library), self.assertRaises(Refusal) as raised:
             member.tick()
-        self.assertEqual((raised.exception.code, str(raised.exception)), (later, f"UNKNOWN_{later}"))
+        self.assertEqual((raised.exception.code, raised.exception.code.name), (later, f"UNKNOWN_{later}"))
+        self.assertEqual(str(raised.exception), f"unknown code {later}")
         with self.assertRaises(ValueError):
             Code(-1)
+
+
+class Errors(Case):
+    def test_each_is_a_jolunza_error(self) -> None:
+        for error in (Refusal, JournalFault, OtherJournal, LockedJournal):
+            self.assertTrue(issubclass(error, JolunzaError))
+
+    def test_which_are_of_a_frame_and_which_pass(self) -> None:
+        of_frames = (Code.MALFORMED, Code.OTHER_GROUP, Code.BAD_MEMBER, Code.IMPOSSIBLE, Code.TOO_FAR, Code.OVERLAP, Code(99))
+        for code in (*Code, Code(99)):
+            for call in ("receive", "receive_loaded", "receive_parts"):
+                self.assertEqual(Refusal(code, call).is_frame_fault, code in of_frames, code.name)
+            self.assertFalse(Refusal(code, "help").is_frame_fault)
+            self.assertEqual(Refusal(code, "cast").is_transient, code in (Code.WINDOW_FULL, Code.NO_MEMORY))
+        with self.assertRaises(Refusal) as raised:
+            opened(1).help(9)
+        self.assertFalse(raised.exception.is_frame_fault)
+        with self.assertRaises(Refusal) as raised:
+            opened(1).receive(bytes.fromhex("11 07 09 01 00 00"))
+        self.assertTrue(raised.exception.is_frame_fault)
+
+    def test_each_code_has_a_sentence(self) -> None:
+        self.assertEqual(len({code.text for code in Code}), len(Code))
+        for code in Code:
+            self.assertRegex(code.text, "^[a-z].*[^.]$")
+        self.assertEqual(str(Refusal(Code.WINDOW_FULL, "cast")), "the window is full: try again after the next frame")
+
+    def test_what_is_printed(self) -> None:
+        full, damaged = Refusal(Code.WINDOW_FULL, "cast"), Refusal(Code.BAD_LINE, "resume", 4, "a/b")
+        self.assertEqual(repr(full), "Refusal(Code.WINDOW_FULL, 'cast')")
+        self.assertEqual(repr(damaged), "Refusal(Code.BAD_LINE, 'resume', line=4, path='a/b')")
+        self.assertEqual(str(damaged), "a/b, line 4: a line of the journal is damaged")
+        self.assertEqual(repr(Code(99)), "<Code.UNKNOWN_99: 99>")
+        self.assertEqual(repr(opened(1)), "Member(group=7, size=3, window=4, me=1, history_max=100000)")
+        other = OtherJournal("a/b", Settings(7, 3, 8, 1))
+        self.assertEqual(str(other), "a/b: the journal is of member 1 of 3, group 7, window 8")
+        for error in (full, damaged, other, JournalFault("a/b", "gone"), LockedJournal("a/b", "another has the journal open")):
+            again = pickle.loads(pickle.dumps(error))
+            self.assertEqual((type(again), str(again), vars(again)), (type(error), str(error), vars(error)))
+
+
+class Senders(Case):
+    def test_of_each_kind_of_frame(self) -> None:
+        for frame, sender in ((HI, (7, 0)), (YO, (7, 1)), (A_B, (7, 1)), (HELP, (7, 2))):
+            self.assertEqual(jolunza.sender(frame), sender)
+        self.assertEqual(jolunza.sender(bytearray.fromhex("12 08 02 01 00 01")), (8, 2))
+        self.assertEqual(jolunza.sender(memoryview(bytes.fromhex("13 07 02 00 01 00 00"))), (7, 2))
+        for given in (b"", b"?", HI[:-1], HI + b"?"):
+            with self.assertRaises(Refusal) as raised:
+                jolunza.sender(given)
+            self.assertEqual((raised.exception.code, raised.exception.is_frame_fault), (Code.MALFORMED, True))
 
 
 class Loading(Case):
@@ -465,11 +497,11 @@ class Loading(Case):
             loaded = bytearray(first + second)
             member.load(memoryview(loaded))
             loaded[:] = bytes(len(loaded))
-            self.assertEqual(member.counts(), Counts(0, 0, 0))
-            self.assertEqual(member.receive_loaded(len(first), len(second)), CHANGED)
+            self.assertEqual(member.counts(), Counts(0, 0))
+            self.assertEqual(did(member.receive_loaded(len(first), len(second))), CHANGED)
             member.cast(b"hi")
-            self.assertEqual(member.receive_loaded(0, len(first)), Received(False, True, 2))
-            self.assertEqual(member.receive_loaded(0, len(first)), Received(True, False, 0))
+            self.assertEqual(did(member.receive_loaded(0, len(first))), Did(False, True, 2))
+            self.assertEqual(did(member.receive_loaded(0, len(first))), REPEAT)
 
     def test_parts_are_taken_in_one_call(self) -> None:
         _, frames = that_cast(0, b"a", b"bc", b"d")
@@ -478,16 +510,16 @@ class Loading(Case):
             member = opened(1, history_max=history_max)
             member.cast(b"hi")
             member.load(b"".join(frames) + b"\0")
-            before = member.counts().events if history_max else 0
-            self.assertEqual(member.receive_parts(0, [*lengths, 1]), 3)
-            self.assertEqual([event.payload for event in member.events(before)], [b"a", b"bc", b"d"])
-            self.assertEqual(member.frames(), [])
+            taken, output = member.receive_parts(0, [*lengths, 1])
+            self.assertEqual((taken, output.frames, did(output)), (3, (), Did(False, True, 3)))
+            self.assertEqual([event.payload for event in output.events], [b"a", b"bc", b"d"])
             kept = state(member)
-            for first, given, code in (
+            refused: list[tuple[int, list[int], Code]] = [
                 (sum(lengths), [1], Code.MALFORMED),
                 (sum(lengths), [2], Code.NONE_THERE),
                 (0, [], Code.NONE_THERE),
-            ):
+            ]
+            for first, given, code in refused:
                 with self.assertRaises(Refusal) as raised:
                     member.receive_parts(first, given)
                 self.assertEqual(raised.exception.code, code)
@@ -518,7 +550,7 @@ class Loading(Case):
         for first, length in ((-1, 8), (0, -1), (1 << 64, 1)):
             with self.assertRaises(OverflowError):
                 member.receive_loaded(first, length)
-        self.assertEqual(member.receive_loaded(0, 8).delivered, 1)
+        self.assertEqual(did(member.receive_loaded(0, 8)), Did(False, True, 1))
 
     def part_is_refused(self, member: Member, first: int, length: int, code: Code) -> None:
         before = state(member)
@@ -529,51 +561,65 @@ class Loading(Case):
 
 
 class WithoutHistory(Case):
-    """There is what the last call that was done added, until the next."""
+    """Each call answers what it did itself, and only the last one that was done can be read."""
 
-    def test_of_a_cast(self) -> None:
-        member = opened(0, history_max=0)
-        self.assertEqual(member.counts(), Counts(0, 0, 0))
+    def test_is_what_is_opened(self) -> None:
+        member = Member(7, 3, 4, 0)
+        self.assertFalse(member.keeps_history)
+        self.assertFalse(Member.resume(member.journal_head()).member.keeps_history)
         for payload in (b"before", b"hi"):
             member.cast(payload)
-        self.assertEqual(member.counts(), Counts(1, 1, 1))
-        self.assertEqual(list(member.events()), [Event(True, Name(0, 2), (2, 0, 0), b"hi")])
-        (frame,) = member.frames()
-        self.assertEqual(list(member.entries()), [Entry(Kind.CAST, frame.bytes, ())])
+        self.assertEqual([event.payload for event in member.events()], [b"hi"])
 
-    def test_of_a_burst(self) -> None:
-        member = opened(0, history_max=0)
-        for payloads in ([b"before"], [b"hi", b"yo"]):
-            member.cast_burst(payloads)
-        self.assertEqual(member.counts(), Counts(1, 2, 1))
-        names = [Name(0, 2), Name(0, 3)]
-        self.assertEqual([(event.name, event.payload) for event in member.events()], list(zip(names, [b"hi", b"yo"])))
-        (frame,) = member.frames()
-        self.assertEqual(list(member.entries()), [Entry(Kind.CAST, frame.bytes, ())])
+    def test_of_calls_one_after_another(self) -> None:
+        """None loses frames or events of the one before, whatever is read between them."""
+        first, second = bytes.fromhex("11 07 02 01 00 01 61"), bytes.fromhex("11 07 01 01 00 01 62")
+        request, status = bytes.fromhex("13 07 02 00 01 00 00"), bytes.fromhex("12 07 01 01 02 02")
+        loaded = [bytes.fromhex("11 07 02 02 00 01 63"), bytes.fromhex("11 07 01 02 00 01 64"), request]
+        calls: list[Callable[[Member], Output]] = [
+            lambda member: member.cast(b"hi"),
+            lambda member: member.cast_burst([b"a", b"b"]),
+            lambda member: member.receive(first),
+            lambda member: member.receive(second),
+            lambda member: member.receive(second),
+            lambda member: member.receive(request),
+            lambda member: member.receive(status),
+            lambda member: member.help(2),
+            Member.tick,
+            Member.tick,
+            lambda member: member.receive_parts(0, list(map(len, loaded)))[1],
+            lambda member: member.receive_loaded(0, len(loaded[0])),
+        ]
+        kept, plain = opened(0, history_max=100), opened(0, history_max=0)
+        for member in (kept, plain):
+            member.load(b"".join(loaded))
+        outputs = [call(kept) for call in calls]
+        self.assertEqual([call(plain) for call in calls], outputs)
+        self.assertEqual([len(output.frames) for output in outputs], [1, 1, 0, 0, 0, 1, 0, 1, 2, 2, 1, 0])
+        self.assertEqual([len(output.events) for output in outputs], [1, 2, 1, 1, 0, 0, 0, 0, 0, 0, 2, 0])
+        self.assertEqual([event for output in outputs for event in output.events], list(kept.events()))
+        self.assertEqual([output.is_repeat for output in outputs], [place in (4, 11) for place in range(12)])
+        self.assertEqual([output.is_entered for output in outputs], [place in (0, 1, 2, 3, 6, 8, 10) for place in range(12)])
 
     def test_of_deliveries(self) -> None:
         member = opened(2, history_max=0)
-        self.assertEqual(member.receive(YO), CHANGED)
+        self.assertEqual(did(member.receive(YO)), CHANGED)
         self.assertEqual((list(member.events()), list(member.entries())), ([], [Entry(Kind.ARRIVE, YO, ())]))
-        self.assertEqual(member.receive(HI), Received(False, True, 2))
+        output = member.receive(HI)
         names = (Name(0, 1), Name(1, 1))
-        self.assertEqual(tuple(event.name for event in member.events()), names)
-        self.assertEqual(list(member.entries()), [Entry(Kind.ARRIVE, HI, names)])
+        self.assertEqual(tuple(event.name for event in output.events), names)
+        self.assertEqual((list(member.events()), list(member.entries())), ([*output.events], [Entry(Kind.ARRIVE, HI, names)]))
         self.answers(member, "ff", Code.MALFORMED)
-        self.assertEqual(member.receive(HI), Received(True, False, 0))
-        self.assertEqual(member.counts(), Counts(0, 0, 0))
-
-    def test_of_a_tick(self) -> None:
-        member = opened(2, history_max=0)
-        for entries in (1, 0, 0):
-            member.tick()
-            self.assertEqual(member.counts(), Counts(1, 0, entries))
+        self.assertEqual(member.help(0), NOTHING)
+        self.assertEqual(member.counts(), Counts(2, 1))
+        self.assertEqual(did(member.receive(HI)), REPEAT)
+        self.assertEqual(member.counts(), Counts(0, 0))
 
     def test_that_is_never_full(self) -> None:
         member = opened(2, history_max=0)
         for number in range(1, 100):
-            self.assertEqual(member.receive(bytes([0x11, 7, 0, number, 0, 0])), Received(False, True, 1))
-        self.assertEqual((member.time(), member.counts()), ((99, 0, 0), Counts(0, 1, 1)))
+            self.assertEqual(did(member.receive(bytes([0x11, 7, 0, number, 0, 0]))), Did(False, True, 1))
+        self.assertEqual((member.time(), member.counts()), ((99, 0, 0), Counts(1, 1)))
 
 
 class Copies(Case):
@@ -592,9 +638,8 @@ class Copies(Case):
     def test_of_a_burst(self) -> None:
         payloads = [bytes([place]) * 32 for place in range(32)]
         member = opened(1, window=256)
-        for _ in range(3):
-            member.cast_burst(payloads)
-        events = list(member.events())
+        events = [event for _ in range(3) for event in member.cast_burst(payloads).events]
+        self.assertEqual(list(member.events()), events)
         self.assertEqual([event.payload for event in events], payloads * 3)
         self.assertEqual([event.time for event in events], [(0, number, 0) for number in range(1, 97)])
 
@@ -610,15 +655,16 @@ class Copies(Case):
         member, frames = that_cast(0, *payloads, window=64)
         other = after(2, *frames[1::2], window=64)
         self.assertEqual(other.missing(0), [range(number, number + 1) for number in range(1, 65, 2)])
-        other.tick()
-        member.receive(other.frames()[1].bytes)
-        self.assertEqual(member.frames(), [Frame(2, frame) for frame in frames[::2]])
+        request = other.tick().frames[1]
+        self.assertEqual(member.receive(request.bytes).frames, tuple(Frame(2, frame) for frame in frames[::2]))
 
     def test_of_the_names_that_one_arrival_delivered(self) -> None:
         _, frames = that_cast(0, *[b"a"] * 40, window=64)
-        member = after(2, *frames[:0:-1], frames[0], window=64)
+        member = after(2, *frames[:0:-1], window=64)
+        output = member.receive(frames[0])
         *_, last = member.entries()
         self.assertEqual(last, Entry(Kind.ARRIVE, frames[0], tuple(Name(0, number) for number in range(1, 41))))
+        self.assertEqual(tuple(event.name for event in output.events), last.delivered)
 
 
 class Values(Case):
@@ -626,29 +672,24 @@ class Values(Case):
         for given in ((1 << 32, 3, 4, 0), (-1, 3, 4, 0), (7, (1 << 32) + 3, 4, 0), (7, 3, 4, 0, 1 << 64)):
             with self.assertRaises(OverflowError):
                 Member(*given)
-        with self.assertRaises(OverflowError):
-            opened(0).missing((1 << 32) + 1)
-        with self.assertRaises(OverflowError):
-            opened(0).stable_of(1 << 32)
-        for read in (opened(0).acknowledged_by, opened(0).keeps_window_full, opened(0).waits_for):
-            with self.assertRaises(OverflowError):
-                read(1 << 32)
-        with self.assertRaises(OverflowError):
-            opened(0).help(1 << 32)
         for read in (opened(0).events, opened(0).entries):
             with self.assertRaises(OverflowError):
                 list(read(-1))
 
     def test_payloads_are_bytes(self) -> None:
         member = opened(0)
+        calls: list[Callable[[Any], object]] = [member.cast, member.receive, member.load, lambda given: member.cast_burst([b"hi", given])]
         for given in ("hi", 5, None):
-            for call in (member.cast, member.receive, member.load, lambda payload: member.cast_burst([b"hi", payload])):
+            for call in calls:
                 with self.assertRaises(TypeError):
-                    call(given)  # type: ignore[arg-type]
+                    call(given)
         for payloads in ("hi", b"hi", 5, None):
             with self.assertRaises(TypeError):
                 member.cast_burst(payloads)  # type: ignore[arg-type]
-        self.assertEqual(member.counts(), Counts(0, 0, 0))
+        for call in (member.help, lambda number: member.receive_loaded(0, number), lambda number: Member(7, 3, 4, number)):
+            with self.assertRaises(TypeError):
+                call(0.5)
+        self.assertEqual(member.counts(), Counts(0, 0))
 
     def test_a_member_has_no_copy(self) -> None:
         with self.assertRaises((TypeError, ValueError)):
@@ -668,7 +709,14 @@ class Values(Case):
 
     def test_no_library(self) -> None:
         with mock.patch.dict(os.environ, JOLUNZA_LIB="/nowhere"):
-            with self.assertRaisesRegex(OSError, "/nowhere/libjolunza.so.*bindings/build.sh"):
+            with self.assertRaisesRegex(JolunzaError, "/nowhere/libjolunza.so.*JOLUNZA_LIB names"):
+                jolunza.library.__wrapped__()
+
+    def test_an_older_library(self) -> None:
+        """It lacks a call; here all of them."""
+        with tempfile.TemporaryDirectory() as folder, mock.patch.dict(os.environ, JOLUNZA_LIB=folder):
+            os.symlink(_ctypes.__file__, os.path.join(folder, jolunza.LIBRARY))
+            with self.assertRaisesRegex(JolunzaError, "undefined symbol: jolunza_"):
                 jolunza.library.__wrapped__()
 
 
@@ -706,7 +754,7 @@ class Network:
         self.on_its_way: list[tuple[int, bytes]] = []
         self.lost = self.repeated = self.overtaken = 0
 
-    def send(self, me: int, frames: list[Frame]) -> None:
+    def send(self, me: int, frames: Iterable[Frame]) -> None:
         for frame in frames:
             for to in range(self._size) if frame.to is None else [frame.to]:
                 copies = 0 if to == me else self.dice.choice((0, 1, 1, 1, 2))
@@ -724,18 +772,18 @@ class Network:
 
 
 class Group:
-    """Members over such a network. A member with a journal writes what it did."""
+    """Members over such a network, and of each the events that its calls answered."""
 
-    def __init__(self, seed: int, messages: int, window: int = 8, history_max: int = 100_000) -> None:
+    def __init__(self, seed: int, messages: int, window: int = 8, history_max: int = 0) -> None:
         self.members = [Member(7, 3, window, me, history_max) for me in range(3)]
-        self.network, self.left, self.order = Network(seed, 3), messages, [Name(0, 0)][:0]
-        self.journals: dict[int, Journal] = {}
+        self.network, self.left = Network(seed, 3), messages
+        self.shown: list[list[Event]] = [[] for _ in self.members]
+        self.order: list[Name] = []
 
-    def call(self, me: int, call: Callable[..., object], *given: object) -> None:
-        call(self.members[me], *given)
-        if me in self.journals:
-            self.journals[me].append()
-        self.network.send(me, self.members[me].frames())
+    def call(self, me: int, call: Callable[..., Output], *given: object) -> None:
+        output = call(self.members[me], *given)
+        self.network.send(me, output.frames)
+        self.shown[me] += output.events
 
     def cast(self, me: int) -> None:
         """One message, or two at once."""
@@ -776,7 +824,7 @@ class Group:
         return steps
 
     def logs(self) -> list[list[Name]]:
-        return [[event.name for event in member.events()] for member in self.members]
+        return [[event.name for event in events] for events in self.shown]
 
 
 THREE_MEMBERS = """\
@@ -786,6 +834,7 @@ member 1 casts 1.1 noon
 member 0 shows 1.1 noon
 member 2 shows 0.1 when?
 member 2 shows 1.1 noon
+member 0 dropped 1 datagram
 all have 1 cast of member 0
 """
 
@@ -802,16 +851,21 @@ class Lossy(Case):
     MESSAGES = 1_000
 
     def test_three_members(self) -> None:
-        group = Group(5, self.MESSAGES)
+        for history_max in (0, 100_000):
+            self.all_is_delivered(Group(5, self.MESSAGES, history_max=history_max))
+
+    def all_is_delivered(self, group: Group) -> None:
         self.assertLess(group.run(200_000), 200_000)
         logs = group.logs()
         self.assertEqual([sorted(log) for log in logs], [sorted(group.order)] * 3)
         self.assertEqual(len(set(group.order)), self.MESSAGES)
         self.assertEqual(list(too_early(group.order, logs)), [])
-        spoken = {event.name: event.payload for event in group.members[0].events()}
+        spoken = {event.name: event.payload for event in group.shown[0]}
         self.assertEqual({spoken[name] for name in group.order}, {b"message %d" % left for left in range(1, 1001)})
-        for member in group.members:
-            self.assertEqual({event.name: event.payload for event in member.events()}, spoken)
+        for member, events in zip(group.members, group.shown):
+            self.assertEqual({event.name: event.payload for event in events}, spoken)
+            if member.keeps_history:
+                self.assertEqual(list(member.events()), events)
         for count in (group.network.lost, group.network.repeated, group.network.overtaken):
             self.assertGreater(count, self.MESSAGES // 2)
 
@@ -827,257 +881,6 @@ class Lossy(Case):
         for place in pairs:
             swapped = log[:place] + [log[place + 1], log[place]] + log[place + 2 :]
             self.assertIn((2, log[place + 1]), list(too_early(order, [logs[0], logs[1], swapped])))
-
-
-HEAD = b"cbcast 1 group 7 size 3 window 8 member 1\n"
-TICK = b"tick 12070100\n"
-OWN = Settings(7, 3, 8, 1)
-
-
-class Comeback(Case):
-    def setUp(self) -> None:
-        folder = tempfile.TemporaryDirectory()
-        self.addCleanup(folder.cleanup)
-        self.path = os.path.join(folder.name, "journal")
-
-    def has(self) -> bytes:
-        with open(self.path, "rb") as file:
-            return file.read()
-
-    def put(self, text: bytes) -> None:
-        with open(self.path, "wb") as file:
-            file.write(text)
-
-    def begin(self, group: Group, history_max: int) -> None:
-        group.journals[1] = Journal(self.path, OWN, history_max)
-        group.members[1] = group.journals[1].member
-
-    def come_back(self, group: Group, history_max: int, part: bytes) -> None:
-        """Member 1 is killed when so much of a line was written."""
-        group.journals[1].close()
-        whole, before, asked = self.has(), state(group.members[1]), helps(group.members[1])
-        self.put(whole + part)
-        self.begin(group, history_max)
-        self.assertEqual(self.has(), whole)
-        self.assertEqual(group.members[1].frames(), [])
-        last = 2 if history_max else 4
-        self.assertEqual(state(group.members[1])[last:], before[last:])
-        self.assertEqual(helps(group.members[1]), asked)
-
-    def test_a_member_comes_back_by_its_journal(self) -> None:
-        for history_max in (100_000, 0):
-            group = Group(9, 200, history_max=history_max)
-            self.begin(group, history_max)
-            for part in (b"", b"cast 11", b"a", b"tick 12070100"):
-                group.run(200)
-                self.come_back(group, history_max, part)
-                self.come_back(group, history_max, b"arr")
-            self.assertLess(group.run(50_000), 50_000)
-            self.assertEqual(sum(group.members[1].time()), 200)
-            if history_max:
-                self.assertEqual(list(too_early(group.order, group.logs())), [])
-            group.journals[1].close()
-            os.remove(self.path)
-
-    def text(self) -> tuple[bytes, list[tuple[object, ...]]]:
-        """The journal of a member, and what was read of it behind each line."""
-        member = Member(*OWN)
-        lines, states = [member.journal_head()], [state(member)]
-        calls: list[tuple[Any, ...]] = [
-            (Member.tick,),
-            (Member.cast, b"noon"),
-            (Member.cast_burst, [b"", b"one"]),
-            (Member.receive, bytes.fromhex("11070002000162")),
-            (Member.receive, bytes.fromhex("11070001000161")),
-        ]
-        for index, (call, *given) in enumerate(calls):
-            call(member, *given)
-            lines.append(member.journal_line(index))
-            states.append(state(member))
-        with self.assertRaises(Refusal) as raised:
-            member.journal_line(len(calls))
-        self.assertEqual(raised.exception.code, Code.NONE_THERE)
-        return b"".join(lines), states
-
-    def test_each_line_is_that_of_the_protocol(self) -> None:
-        casts = b"cast 1107010100046e6f6f6e\ncast 21070102000200036f6e65\n"
-        arrives = b"arrive 11070002000162 -\narrive 11070001000161 0.1 0.2\n"
-        self.assertEqual(self.text()[0], HEAD + TICK + casts + arrives)
-
-    def test_every_cut_is_a_beginning(self) -> None:
-        text, states = self.text()
-        for length in range(len(HEAD), len(text) + 1):
-            part = text[:length]
-            back = Member.resume(memoryview(part))
-            lines = part.count(b"\n")
-            self.assertEqual((back.settings, back.entries, back.read), (OWN, lines - 1, part.rfind(b"\n") + 1))
-            self.assertEqual(state(back.member)[2:], states[lines - 1][2:])
-
-    def test_a_file_is_begun_where_it_has_a_part_of_the_head_line(self) -> None:
-        for length in range(len(HEAD) + 1):
-            self.put(HEAD[:length])
-            Journal(self.path, OWN).close()
-            self.assertEqual(self.has(), HEAD)
-
-    def test_what_is_no_journal_is_named_and_left(self) -> None:
-        text = HEAD + TICK
-        for given, code, line in (
-            (b"a letter", Code.BAD_LINE, 1),
-            (b"a letter\n", Code.BAD_LINE, 1),
-            (text + b"cast 110701010001\ncast\n", Code.BAD_LINE, 4),
-            (text + TICK, Code.NOT_LEGAL, 3),
-            (text + b"cast 11070102000161\n", Code.NOT_LEGAL, 3),
-            (text + b"arrive 11070001000161 -\n", Code.NOT_LEGAL, 3),
-        ):
-            self.put(given)
-            with self.assertRaises(Refusal) as raised:
-                Journal(self.path, OWN)
-            self.assertEqual((raised.exception.code, raised.exception.line), (code, line))
-            self.assertEqual(str(raised.exception), f"{code.name} {line}")
-            self.assertEqual(self.has(), given)
-
-    def test_each_fault_comes_before_the_next(self) -> None:
-        text, over = HEAD + TICK + TICK, 16_777_217
-        for given, history_max, code, line in (
-            (b"a", over, Code.NO_HEAD, None),
-            (text + b"?\n", over, Code.BAD_LINE, 4),
-            (text, over, Code.BAD_LIMIT, None),
-            (text, 1, Code.TOO_LONG, None),
-            (text, 2, Code.NOT_LEGAL, 3),
-            (text, 0, Code.NOT_LEGAL, 3),
-        ):
-            with self.assertRaises(Refusal) as raised:
-                Member.resume(given, history_max)
-            self.assertEqual((raised.exception.code, raised.exception.line), (code, line))
-        with self.assertRaises(OverflowError):
-            Member.resume(text, 1 << 64)
-        with self.assertRaises(TypeError):
-            Member.resume("cbcast")  # type: ignore[arg-type]
-
-    def test_the_journal_of_another_member(self) -> None:
-        text = HEAD + TICK + b"ca"
-        for other in (OWN._replace(group=8), OWN._replace(size=4), OWN._replace(window=9), OWN._replace(me=2)):
-            self.put(text)
-            with self.assertRaises(OtherJournal) as raised:
-                Journal(self.path, other)
-            self.assertEqual(raised.exception.settings, OWN)
-            self.assertEqual(self.has(), text)
-
-    def test_nobody_else_has_the_journal(self) -> None:
-        journal = Journal(self.path, OWN)
-        with self.assertRaises(BlockingIOError):
-            Journal(self.path, OWN)
-        journal.close()
-        Journal(self.path, OWN).close()
-
-    def test_the_entries_of_no_other_member_are_written(self) -> None:
-        with Journal(self.path, OWN) as journal, self.assertRaises(AttributeError):
-            journal.member = opened(2)  # type: ignore[misc]
-
-    def test_each_entry_is_written_once(self) -> None:
-        for history_max in (100_000, 0):
-            journal, expected = Journal(self.path, OWN, history_max), HEAD
-            member = journal.member
-            frames = bytes.fromhex("11070002000162"), bytes.fromhex("11070001000161")
-            member.load(b"".join(frames))
-            for call, lines in (
-                (member.tick, TICK),
-                (member.tick, b""),
-                (lambda: member.cast(b"a"), b"cast 11070101000161\n"),
-                (lambda: member.help(0), b""),
-                (lambda: member.receive(b"?"), b""),
-                (lambda: member.receive_loaded(0, 7), b"arrive 11070002000162 -\n"),
-                (lambda: member.receive_parts(7, [7]), b"arrive 11070001000161 0.1 0.2\n"),
-            ):
-                with contextlib.suppress(Refusal):
-                    call()
-                expected += lines
-                for _ in range(2):
-                    journal.append()
-                    self.assertEqual(self.has(), expected)
-            journal.close()
-            journal = Journal(self.path, OWN, history_max)
-            self.assertEqual([event.payload for event in journal.member.events()], [b"a", b"a", b"b"])
-            journal.append()
-            journal.member.cast(b"b")
-            journal.append()
-            self.assertTrue(self.has().startswith(expected + b"cast "))
-            journal.close()
-            os.remove(self.path)
-
-    def test_without_a_history_an_entry_that_was_left_out_is_seen(self) -> None:
-        with Journal(self.path, OWN, 0) as journal:
-            journal.member.tick()
-            journal.append()
-            journal.member.tick()  # it has no news, and so no entry
-            journal.member.cast(b"a")
-            journal.append()
-            written = self.has()
-            journal.member.cast(b"b")
-            journal.member.receive(HI)
-            for _ in range(2):
-                with self.assertRaises(LeftOut):
-                    journal.append()
-            self.assertEqual(self.has(), written)
-
-    def test_from_the_first_fault_on_nothing_is_written(self) -> None:
-        journal = Journal(self.path, OWN)
-        journal.member.cast(b"a")
-        with mock.patch.object(os, "fsync", side_effect=OSError("no disk")) as fsync, self.assertRaises(OSError) as raised:
-            journal.append()
-        self.assertEqual(fsync.call_count, 1)
-        journal.member.cast(b"b")
-        written = self.has()
-        with self.assertRaises(OSError) as again:
-            journal.append()
-        self.assertIs(again.exception, raised.exception)
-        self.assertEqual(self.has(), written)
-        journal.close()
-
-    def test_a_write_of_a_part_is_gone_on_with(self) -> None:
-        journal = Journal(self.path, OWN)
-        journal.member.cast(b"a")
-        file, journal._file = journal._file, mock.Mock(wraps=journal._file)
-        journal._file.write.side_effect = lambda rest: file.write(rest[:3])
-        journal.append()
-        self.assertEqual(self.has(), HEAD + b"cast 11070101000161\n")
-        file.close()
-
-    def test_a_long_line_is_whole(self) -> None:
-        sender, member = Member(7, 64, 256, 0), Member(7, 64, 256, 1)
-        frames = []
-        for _ in range(256):
-            sender.cast(b"")
-            frames.append(sender.frames()[0].bytes)
-        for frame in [*frames[1:], frames[0]]:
-            member.receive(frame)
-        member._bytes = (ctypes.c_uint8 * 1000)()  # so that it is too small
-        line = member.journal_line(255)
-        self.assertEqual(line.split()[2:], [b"0.%d" % number for number in range(1, 257)])
-        self.assertTrue(line.endswith(b"\n"))
-
-
-class Screens(Case):
-    """What redis_group.py finds wrong."""
-
-    def screens(self) -> list[list[str]]:
-        lines = [f"{me}.{number} line" for number in range(1, redis_group.LINES_OF_EACH + 1) for me in range(3)]
-        lines[5] = "2.2 re 1.2 line"
-        return [list(lines) for _ in range(3)]
-
-    def test_that_are_right(self) -> None:
-        self.assertEqual(list(redis_group.faults(self.screens(), self.screens()[1][:7])), [])
-
-    def test_that_are_wrong(self) -> None:
-        lacks, twice, other, orphan, past = (self.screens() for _ in range(5))
-        del lacks[2][-1]
-        twice[0].append(twice[0][3])
-        other[1][3] += "!"
-        orphan[2][4], orphan[2][5] = orphan[2][5], orphan[2][4]
-        for screens, said in ((lacks, "screen 2 has not"), (twice, "screen 0 has not"), (other, "screen 1 has not")):
-            self.assertIn(said, next(redis_group.faults(screens, [])))
-        self.assertEqual(list(redis_group.faults(orphan, [])), ["screen 2 has an orphan: 2.2 re 1.2 line"])
-        self.assertEqual(list(redis_group.faults(past, ["1.1 line"])), ["the member that came back has another past"])
 
 
 def load_tests(loader: unittest.TestLoader, tests: unittest.TestSuite, pattern: Optional[str]) -> unittest.TestSuite:

@@ -1,11 +1,12 @@
 """Three members in one process, and between them a network that is a list of frames for each. Member 0's question is lost on its way
-to member 2, which therefore gets the answer first: it shows nothing, asks for the question, and then shows both."""
+to member 2, which therefore gets the answer first: it shows nothing, asks for the question, and then shows both. Bytes that are no frame
+are dropped."""
 
 from __future__ import annotations
 
 from typing import Optional
 
-from jolunza import Member, Refusal
+from jolunza import Event, Member, Output, Refusal
 
 SIZE = 3
 
@@ -26,58 +27,46 @@ class Network:
         return taken
 
 
+# README: begin
 class Speaker:
-    """A member, and how many of its events were shown."""
+    """A member, and a network that may lose, repeat and reorder what is sent."""
 
-    def __init__(self, me: int) -> None:
-        self.me, self.member, self.shown = me, Member(7, SIZE, 16, me), 0
+    def __init__(self, me: int, network: Network) -> None:
+        self.me, self.network, self.dropped = me, network, 0
+        self.member = Member(group=7, size=3, window=16, me=me)
 
+    def turn(self) -> None:
+        for datagram in self.network.take(self.me):
+            try:
+                self.hand_on(self.member.receive(datagram))
+            except Refusal:
+                self.dropped += 1  # damaged, of a stranger, or too early: no reason to end
+        self.hand_on(self.member.tick())  # says what it has, and asks for what it misses
 
-# TURN: begin
-def turn(speaker: Speaker, network: Network) -> None:
-    """It takes what it received, shows what is new, and says what it has and what it misses."""
-    for frame in network.take(speaker.me):
-        try:
-            speaker.member.receive(frame)
-        except Refusal as refusal:
-            print(f"member {speaker.me} drops a frame: {refusal}")
-        else:
-            send(speaker, network)
-    show(speaker)
-    speaker.member.tick()
-    send(speaker, network)
-
-
-def send(speaker: Speaker, network: Network) -> None:
-    """Sends the frames of the last call."""
-    for frame in speaker.member.frames():
-        network.send(speaker.me, frame.to, frame.bytes)
+    def hand_on(self, output: Output) -> None:
+        for frame in output.frames:
+            self.network.send(self.me, frame.to, frame.bytes)  # `to` is None for all others
+        for event in output.events:
+            show(self.me, event)
+# README: end
 
 
-def show(speaker: Speaker) -> None:
-    """Shows the casts and deliveries that were not shown yet."""
-    for event in speaker.member.events(speaker.shown):
-        speaker.shown += 1
-        print(f"member {speaker.me} {'casts' if event.is_own else 'shows'} {event.name} {event.payload.decode()}")
-# TURN: end
-
-
-def cast(speaker: Speaker, network: Network, text: str) -> None:
-    speaker.member.cast(text.encode())
-    send(speaker, network)
-    show(speaker)
+def show(me: int, event: Event) -> None:
+    print(f"member {me} {'casts' if event.is_own else 'shows'} {event.name} {event.payload.decode(errors='replace')}")
 
 
 def main() -> None:
     network = Network()
-    speakers = [Speaker(me) for me in range(SIZE)]
-    cast(speakers[0], network, "when?")
+    speakers = [Speaker(me, network) for me in range(SIZE)]
+    speakers[0].hand_on(speakers[0].member.cast(b"when?"))
     network.take(2)
-    turn(speakers[1], network)
-    cast(speakers[1], network, "noon")
+    speakers[1].turn()
+    speakers[1].hand_on(speakers[1].member.cast(b"noon"))
+    network.send(1, 0, b"what is no frame")
     for _round in range(3):
         for speaker in reversed(speakers):
-            turn(speaker, network)
+            speaker.turn()
+    print(f"member 0 dropped {speakers[0].dropped} datagram")
     print(f"all have {speakers[0].member.stable()} cast of member 0")
 
 

@@ -1,6 +1,6 @@
 //! The frames of a call, copied out of the library at once.
 
-use crate::refusal::answered;
+use crate::refusal::{answered, Refusal};
 use crate::{sys, LONGEST_FRAME};
 use std::slice;
 
@@ -37,8 +37,24 @@ impl<'a> Iterator for Frames<'a> {
 
 impl ExactSizeIterator for Frames<'_> {}
 
-/// What is copied goes here: so many frames, each as long as can be. It grows to what the longest answer so far needed,
-/// and stays.
+/// Whom a frame is of.
+#[derive(Clone, Copy, Debug, PartialEq, Eq, Hash)]
+pub struct Sender {
+    /// The number of its group.
+    pub group: u32,
+    /// The sender of a cast, a burst or a status; of a request or a help frame the member that asks.
+    pub member: u32,
+}
+
+/// Whom a frame is of, by its bytes, which anybody can forge. A cast may come from another member than its sender: a helper sends it on.
+/// `Malformed` where they are no frame; or `NoMemory`.
+pub fn sender(bytes: &[u8]) -> Result<Sender, Refusal> {
+    let (mut group, mut member) = (0, 0);
+    answered(unsafe { sys::jolunza_sender(bytes.as_ptr(), bytes.len(), &mut group, &mut member) })?;
+    Ok(Sender { group, member })
+}
+
+/// The frames of a call are copied here. It grows to what the longest answer until now needed, and stays.
 pub(crate) struct FrameBuffer {
     heads: Vec<sys::jolunza_frame_head>,
     bytes: Vec<u8>,

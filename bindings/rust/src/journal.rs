@@ -1,124 +1,209 @@
 //! A member's journal in a file.
 
-use crate::{Member, Refusal, ResumeFault, Settings};
+use crate::{Events, Member, Output, Refusal, ResumeFault, Settings};
 use std::error::Error;
 use std::fmt;
 use std::fs::{File, OpenOptions, TryLockError};
 use std::io::{self, Read, Seek, SeekFrom, Write};
-use std::path::Path;
+use std::ops::{Range, RangeBounds};
+use std::path::{Path, PathBuf};
+use std::sync::Arc;
 
-/// What a member did, in a file: an entry is on the disk before anything that follows from it is sent or shown, so that the member
-/// comes back after its process was killed.
+/// A member, and in a file what it did, so that it comes back after its process was killed.
 ///
-/// After each call that was done [`append`](Journal::append), and only then send the frames and show the events. Who opens the file
-/// while another has it is answered `InUse`: two that come back by one journal are one member twice.
+/// A call writes its entry and waits until it is on the disk; only then it answers what is to be sent and shown. So nothing
+/// is known to others that the file does not have. A process that opens the file while another one has it is answered `InUse`: two
+/// that come back by one journal are one member twice.
+///
+/// A call answers a result in a result. The outer one is the file's: after a [`JournalFault`] end, and come back. The inner one is the
+/// member's: a [`Refusal`] has changed nothing.
 ///
 /// ```
 /// # use jolunza::{Journal, Settings};
 /// # let path = std::env::temp_dir().join(format!("jolunza-journal-page-{}", std::process::id()));
-/// let settings = Settings { group: 7, size: 3, window: 4, me: 0, history_max: 100 };
-/// let (mut journal, mut anna) = Journal::open(&path, &settings)?;
-/// anna.cast(b"when?")?;
-/// journal.append(&anna)?; // send the frames and show the events behind this
-/// drop((journal, anna)); // its process is killed
+/// # let (send, show) = (|_: jolunza::Frame| (), |_: jolunza::Event| ());
+/// let settings = Settings { group: 7, size: 3, window: 4, me: 0 };
+/// let mut anna = Journal::open(&path, settings)?;
+/// match anna.cast(b"when?")? {
+///     Ok(mut output) => {
+///         output.frames().for_each(send);
+///         output.events().for_each(show);
+///     }
+///     Err(refusal) => eprintln!("not cast: {refusal}"), // the member and the file are as they were
+/// }
+/// drop(anna); // its process is killed
 ///
-/// let (_, mut anna) = Journal::open(&path, &settings)?;
-/// assert_eq!(anna.new_events().next().unwrap().payload, b"when?");
+/// let mut anna = Journal::open(&path, settings)?;
+/// assert_eq!(anna.events(..).next().unwrap().payload, b"when?");
 /// # std::fs::remove_file(&path)?;
 /// # Ok::<(), Box<dyn std::error::Error>>(())
 /// ```
 #[derive(Debug)]
 pub struct Journal {
+    path: PathBuf,
     /// Locked as long as it is open.
     file: File,
-    /// Of the member whose journal it is.
-    settings: Settings,
-    /// How many entries of the history are written; without one how many of those that were added since the file was opened.
-    written: usize,
+    member: Member,
     fault: Option<JournalFault>,
 }
 
 /// Why no member comes back by a file, and none begins it; or why an entry is not in it.
-#[derive(Clone, Copy, Debug, PartialEq, Eq)]
+#[derive(Clone, Debug)]
+#[non_exhaustive]
 pub enum JournalFault {
     /// The file can't be opened, locked, read, cut, written or synced.
-    File(io::ErrorKind),
+    File { path: PathBuf, fault: Arc<io::Error> },
     /// Another has the file open.
-    InUse,
-    /// It is the journal of another member, or of another group number, size or window: of these. To `append` a member
-    /// with another `history_max` is another one too.
-    OtherJournal(Settings),
-    /// No member comes back by it. It is never `NoHead`, after which the journal is begun.
-    NotResumed(ResumeFault),
+    InUse { path: PathBuf },
+    /// It is the journal of another member, or of another group number, size or window: of these.
+    OtherJournal { path: PathBuf, settings: Settings },
+    /// No member comes back by it. The fault is never `NoHead`, after which the journal is begun.
+    NotResumed { path: PathBuf, fault: ResumeFault },
     /// The member was not opened, or has no memory for a line.
-    Refused(Refusal),
-    /// Without a history: between two calls nothing was appended, and the entry of the first of them is lost.
-    LeftOut,
-    /// The member has fewer entries than were written: another one wrote them, and this one began anew.
-    FewerEntries,
+    Refused { path: PathBuf, refusal: Refusal },
 }
 
 impl Journal {
-    /// The member of the journal in this file, which is cut behind its whole lines; all its events are new ones, from the first on. A
-    /// file that is not there, or has nothing but a part of the head line, is begun, by a member that has done nothing.
+    /// The member of the journal in this file, which is cut after its whole lines. A file that is not there, or has nothing but a part of
+    /// the head line, is begun, by a member that has done nothing. It keeps no history.
     ///
     /// After a fault the file is as it was, but for its torn line, or what was begun of its head line.
-    pub fn open(path: &Path, settings: &Settings) -> Result<(Journal, Member), JournalFault> {
-        let mut file = OpenOptions::new().read(true).write(true).create(true).truncate(false).open(path)?;
-        file.try_lock()?;
+    pub fn open(path: impl AsRef<Path>, settings: Settings) -> Result<Journal, JournalFault> {
+        Journal::open_with_history(path, settings, 0)
+    }
+
+    /// As `open`, with a history of at most `history_max` entries, for an audit.
+    pub fn open_with_history(
+        path: impl AsRef<Path>,
+        settings: Settings,
+        history_max: usize,
+    ) -> Result<Journal, JournalFault> {
+        let path = path.as_ref();
+        let mut file = locked(path)?;
         let mut bytes = Vec::new();
-        file.read_to_end(&mut bytes)?;
-        let member = match Member::resume(&bytes, settings.history_max) {
-            Ok(back) if back.member.settings() != *settings => {
-                return Err(JournalFault::OtherJournal(back.member.settings()));
+        file.read_to_end(&mut bytes).map_err(in_file(path))?;
+        let member = match Member::resume_with_history(&bytes, history_max) {
+            Ok(back) if back.settings() != settings => {
+                return Err(JournalFault::OtherJournal { path: path.into(), settings: back.settings() });
             }
             Ok(back) => {
-                cut(&mut file, back.read)?;
-                back.member
+                cut(&mut file, back.read()).map_err(in_file(path))?;
+                back.into_member()
             }
-            Err(ResumeFault::NoHead) => begin(&mut file, &bytes, settings)?,
-            Err(fault) => return Err(fault.into()),
+            Err(ResumeFault::NoHead) => {
+                let member = Member::open_with_history(settings, history_max).map_err(refused(path))?;
+                begin(path, &mut file, &bytes, &member)?;
+                member
+            }
+            Err(fault) => return Err(JournalFault::NotResumed { path: path.into(), fault }),
         };
-        file.sync_data()?;
-        sync_folder(path)?;
-        let written = if settings.history_max == 0 { 0 } else { member.counts().entries };
-        Ok((Journal { file, settings: *settings, written, fault: None }, member))
+        file.sync_data().and_then(|()| sync_folder(path)).map_err(in_file(path))?;
+        Ok(Journal { path: path.into(), file, member, fault: None })
     }
 
-    /// Writes the lines of the entries that are not written yet, which are on the disk when this is done. To be called after each call
-    /// of the member that was done: without a history the entries of an earlier one can't be read any more.
-    ///
-    /// From the first fault on it writes nothing and answers that fault. Then nothing may be sent any more: end, and come back.
-    pub fn append(&mut self, member: &Member) -> Result<(), JournalFault> {
-        if let Some(fault) = self.fault {
+    /// The member, to be read. Its calls are those of the journal. After a fault it may know what the file does not have.
+    pub fn member(&self) -> &Member {
+        &self.member
+    }
+
+    /// The events of [`Member::events`]. Before the first call `events(..)` has all of the journal, also without a history.
+    pub fn events(&mut self, indexes: impl RangeBounds<usize>) -> Events<'_> {
+        self.member.events(indexes)
+    }
+
+    /// [`Member::cast`].
+    pub fn cast(&mut self, payload: &[u8]) -> Result<Result<Output<'_>, Refusal>, JournalFault> {
+        self.kept(|member| member.cast(payload))
+    }
+
+    /// [`Member::cast_burst`].
+    pub fn cast_burst(&mut self, payloads: &[&[u8]]) -> Result<Result<Output<'_>, Refusal>, JournalFault> {
+        self.kept(|member| member.cast_burst(payloads))
+    }
+
+    /// [`Member::receive`].
+    pub fn receive(&mut self, bytes: &[u8]) -> Result<Result<Output<'_>, Refusal>, JournalFault> {
+        self.kept(|member| member.receive(bytes))
+    }
+
+    /// [`Member::load`], which adds no entry.
+    pub fn load(&mut self, bytes: &[u8]) -> Result<(), Refusal> {
+        self.member.load(bytes)
+    }
+
+    /// [`Member::receive_loaded`].
+    pub fn receive_loaded(&mut self, part: Range<usize>) -> Result<Result<Output<'_>, Refusal>, JournalFault> {
+        self.kept(|member| member.receive_loaded(part))
+    }
+
+    /// [`Member::receive_parts`].
+    pub fn receive_parts(
+        &mut self,
+        first: usize,
+        lengths: &[usize],
+    ) -> Result<Result<(usize, Output<'_>), Refusal>, JournalFault> {
+        let mut count = 0;
+        let done = self.kept(|member| {
+            let (taken, output) = member.receive_parts(first, lengths)?;
+            count = taken;
+            Ok(output)
+        })?;
+        Ok(done.map(|output| (count, output)))
+    }
+
+    /// [`Member::tick`].
+    pub fn tick(&mut self) -> Result<Result<Output<'_>, Refusal>, JournalFault> {
+        self.kept(Member::tick)
+    }
+
+    /// [`Member::help`].
+    pub fn help(&mut self, other: u32) -> Result<Result<Output<'_>, Refusal>, JournalFault> {
+        self.kept(|member| member.help(other))
+    }
+
+    /// Makes a call, and writes its entries before it answers. From the first fault on it makes none, and answers that fault.
+    fn kept(
+        &mut self,
+        call: impl FnOnce(&mut Member) -> Result<Output<'_>, Refusal>,
+    ) -> Result<Result<Output<'_>, Refusal>, JournalFault> {
+        if let Some(fault) = &self.fault {
+            return Err(fault.clone());
+        }
+        let done = match call(&mut self.member) {
+            Ok(output) => output.done(),
+            Err(refusal) => return Ok(Err(refusal)),
+        };
+        if let Err(fault) = self.write(done.entries) {
+            self.fault = Some(fault.clone());
             return Err(fault);
         }
-        let done = self.write_new(member);
-        self.fault = done.err();
-        done
+        Ok(Ok(Output::of(&mut self.member, done)))
     }
 
-    fn write_new(&mut self, member: &Member) -> Result<(), JournalFault> {
-        if member.settings() != self.settings {
-            return Err(JournalFault::OtherJournal(self.settings));
+    /// Writes the lines of the last entries, which are on the disk when this is done.
+    fn write(&mut self, count: usize) -> Result<(), JournalFault> {
+        if count == 0 {
+            return Ok(());
         }
-        let entries = member.counts().entries;
-        let added = if self.settings.history_max == 0 { member.entered() } else { entries };
-        if added < self.written {
-            return Err(JournalFault::FewerEntries);
-        }
-        let first = (entries + self.written).checked_sub(added).ok_or(JournalFault::LeftOut)?;
-        let lines = (first..entries).map(|index| member.journal_line(index)).collect::<Result<String, Refusal>>()?;
-        if !lines.is_empty() {
-            self.file.write_all(lines.as_bytes())?;
-            self.file.sync_data()?;
-        }
-        self.written = added;
-        Ok(())
+        let entries = self.member.counts().entries;
+        let lines = (entries - count..entries).map(|index| self.member.journal_line(index));
+        let lines = lines.collect::<Result<String, Refusal>>().map_err(refused(&self.path))?;
+        let written = self.file.write_all(lines.as_bytes()).and_then(|()| self.file.sync_data());
+        written.map_err(in_file(&self.path))
     }
 }
 
-/// Keeps so many bytes at the front, and goes behind them.
+fn locked(path: &Path) -> Result<File, JournalFault> {
+    let file = OpenOptions::new().read(true).write(true).create(true).truncate(false).open(path);
+    let file = file.map_err(in_file(path))?;
+    match file.try_lock() {
+        Ok(()) => Ok(file),
+        Err(TryLockError::WouldBlock) => Err(JournalFault::InUse { path: path.into() }),
+        Err(TryLockError::Error(fault)) => Err(in_file(path)(fault)),
+    }
+}
+
+/// Keeps this many bytes at the front; what is written comes after them.
 fn cut(file: &mut File, length: usize) -> io::Result<()> {
     file.set_len(length as u64)?;
     file.seek(SeekFrom::Start(length as u64))?;
@@ -126,15 +211,12 @@ fn cut(file: &mut File, length: usize) -> io::Result<()> {
 }
 
 /// A new member begins the journal, where the file has nothing but a part of its head line.
-fn begin(file: &mut File, bytes: &[u8], settings: &Settings) -> Result<Member, JournalFault> {
-    let member = Member::open(*settings)?;
-    let head = member.journal_head()?;
+fn begin(path: &Path, file: &mut File, bytes: &[u8], member: &Member) -> Result<(), JournalFault> {
+    let head = member.journal_head().map_err(refused(path))?;
     if !head.as_bytes().starts_with(bytes) {
-        return Err(ResumeFault::BadLine { line: 1 }.into());
+        return Err(JournalFault::NotResumed { path: path.into(), fault: ResumeFault::BadLine { line: 1 } });
     }
-    cut(file, 0)?;
-    file.write_all(head.as_bytes())?;
-    Ok(member)
+    cut(file, 0).and_then(|()| file.write_all(head.as_bytes())).map_err(in_file(path))
 }
 
 /// The name of a file that was made outlasts a failure of power as its bytes do.
@@ -143,72 +225,97 @@ fn sync_folder(path: &Path) -> io::Result<()> {
     File::open(folder.unwrap_or(Path::new(".")))?.sync_all()
 }
 
-impl From<io::Error> for JournalFault {
-    fn from(fault: io::Error) -> JournalFault {
-        JournalFault::File(fault.kind())
-    }
+fn in_file(path: &Path) -> impl FnOnce(io::Error) -> JournalFault + '_ {
+    |fault| JournalFault::File { path: path.into(), fault: Arc::new(fault) }
 }
 
-impl From<TryLockError> for JournalFault {
-    fn from(fault: TryLockError) -> JournalFault {
-        match fault {
-            TryLockError::WouldBlock => JournalFault::InUse,
-            TryLockError::Error(fault) => fault.into(),
+fn refused(path: &Path) -> impl FnOnce(Refusal) -> JournalFault + '_ {
+    |refusal| JournalFault::Refused { path: path.into(), refusal }
+}
+
+impl JournalFault {
+    /// The file.
+    pub fn path(&self) -> &Path {
+        match self {
+            JournalFault::File { path, .. } | JournalFault::InUse { path } => path,
+            JournalFault::OtherJournal { path, .. } | JournalFault::NotResumed { path, .. } => path,
+            JournalFault::Refused { path, .. } => path,
         }
-    }
-}
-
-impl From<ResumeFault> for JournalFault {
-    fn from(fault: ResumeFault) -> JournalFault {
-        JournalFault::NotResumed(fault)
-    }
-}
-
-impl From<Refusal> for JournalFault {
-    fn from(refusal: Refusal) -> JournalFault {
-        JournalFault::Refused(refusal)
     }
 }
 
 impl fmt::Display for JournalFault {
     fn fmt(&self, f: &mut fmt::Formatter<'_>) -> fmt::Result {
+        write!(f, "{}: ", self.path().display())?;
         match self {
-            JournalFault::File(kind) => kind.fmt(f),
-            JournalFault::InUse => f.write_str("another has the journal open"),
-            JournalFault::OtherJournal(Settings { group, size, window, me, history_max }) => write!(
-                f,
-                "the journal is of member {me} of {size}, group {group}, window {window}, history_max {history_max}"
-            ),
-            JournalFault::NotResumed(fault) => fault.fmt(f),
-            JournalFault::Refused(refusal) => refusal.fmt(f),
-            JournalFault::LeftOut => f.write_str("an entry is lost: nothing was appended between two calls"),
-            JournalFault::FewerEntries => f.write_str("the member has fewer entries than its journal: it began anew"),
+            JournalFault::File { fault, .. } => fault.fmt(f),
+            JournalFault::InUse { .. } => f.write_str("another has the journal open"),
+            JournalFault::OtherJournal { settings: Settings { group, size, window, me }, .. } => {
+                write!(f, "the journal is of member {me} of {size}, group {group}, window {window}")
+            }
+            JournalFault::NotResumed { fault, .. } => fault.fmt(f),
+            JournalFault::Refused { refusal, .. } => refusal.fmt(f),
         }
     }
 }
 
-impl Error for JournalFault {}
+impl Error for JournalFault {
+    fn source(&self) -> Option<&(dyn Error + 'static)> {
+        match self {
+            JournalFault::File { fault, .. } => Some(fault.as_ref()),
+            JournalFault::NotResumed { fault, .. } => Some(fault),
+            JournalFault::Refused { refusal, .. } => Some(refusal),
+            JournalFault::InUse { .. } | JournalFault::OtherJournal { .. } => None,
+        }
+    }
+}
 
 #[cfg(test)]
 mod tests {
     use super::*;
 
-    fn device(path: &str) -> File {
-        OpenOptions::new().write(true).open(path).unwrap()
+    const SETTINGS: Settings = Settings { group: 7, size: 3, window: 4, me: 0 };
+
+    /// A journal whose next lines go to a device.
+    fn into_device(device: &str, history_max: usize) -> Journal {
+        let file = OpenOptions::new().write(true).open(device).unwrap();
+        let member = Member::open_with_history(SETTINGS, history_max).unwrap();
+        Journal { path: device.into(), file, member, fault: None }
+    }
+
+    fn kind_of<T>(answer: Result<T, JournalFault>) -> Option<io::ErrorKind> {
+        match answer.err()? {
+            JournalFault::File { fault, .. } => Some(fault.kind()),
+            fault => panic!("{fault}"),
+        }
     }
 
     #[test]
     fn the_first_fault_is_answered_from_then_on() {
-        let settings = Settings { group: 7, size: 3, window: 4, me: 0, history_max: 100 };
-        for settings in [settings, Settings { history_max: 0, ..settings }] {
-            let mut member = Member::open(settings).unwrap();
-            let mut journal = Journal { file: device("/dev/full"), settings, written: 0, fault: None };
-            assert_eq!(journal.append(&member), Ok(()));
-            member.cast(b"a").unwrap();
-            let no_space = io::Error::from_raw_os_error(28).kind();
-            assert_eq!(journal.append(&member), Err(JournalFault::File(no_space)));
-            journal.file = device("/dev/null");
-            assert_eq!(journal.append(&member), Err(JournalFault::File(no_space)));
+        for history_max in [100, 0] {
+            let mut journal = into_device("/dev/full", history_max);
+            assert_eq!(kind_of(journal.help(1)), None, "it adds no entry");
+            let fault = journal.cast(b"a").unwrap_err();
+            assert_eq!(fault.to_string(), "/dev/full: No space left on device (os error 28)");
+            assert_eq!(fault.source().unwrap().to_string(), "No space left on device (os error 28)");
+            journal.file = OpenOptions::new().write(true).open("/dev/null").unwrap();
+            for _ in 0..2 {
+                assert_eq!(kind_of(journal.cast(b"b")), Some(io::ErrorKind::StorageFull));
+                assert_eq!(kind_of(journal.help(1)), Some(io::ErrorKind::StorageFull));
+            }
+            assert_eq!(journal.member().time(), [1, 0, 0], "no more calls were made");
+        }
+    }
+
+    /// This device takes all bytes, and can't be synced.
+    #[test]
+    fn a_line_that_is_not_synced_is_not_written() {
+        for history_max in [100, 0] {
+            let mut journal = into_device("/dev/null", history_max);
+            (&journal.file).write_all(b"a").unwrap();
+            for _ in 0..2 {
+                assert_eq!(kind_of(journal.cast(b"a")), Some(io::ErrorKind::InvalidInput));
+            }
         }
     }
 }

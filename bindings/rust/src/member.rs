@@ -3,6 +3,7 @@
 use crate::entries::{Entry, EntryBuffer};
 use crate::events::{EventBuffer, Events};
 use crate::frames::{FrameBuffer, Frames};
+use crate::output::{Done, Left, Output};
 use crate::refusal::{answered, Refusal};
 use crate::resuming::{ResumeFault, Resumed};
 use crate::sys;
@@ -12,7 +13,7 @@ use std::ops::{Bound, Range, RangeBounds, RangeInclusive};
 use std::ptr;
 
 /// Which member is opened. Group number, size and window are the same at each member of a group.
-#[derive(Clone, Copy, Debug, PartialEq, Eq)]
+#[derive(Clone, Copy, Debug, PartialEq, Eq, Hash)]
 pub struct Settings {
     pub group: u32,
     /// How many members there are: 2 to 64.
@@ -21,10 +22,6 @@ pub struct Settings {
     pub window: u32,
     /// The member's own number, from 0.
     pub me: u32,
-    /// The most entries of its history, up to 16,777,216. With 0 it keeps none: its memory stays bounded, `HistoryFull`
-    /// never comes, and events and entries are those of the last call of `cast`, `cast_burst`, `receive` or `tick` that
-    /// was done.
-    pub history_max: usize,
 }
 
 /// The name of a message: its sender, and the how many-th cast of it, from 1. It is printed as `0.1`.
@@ -40,25 +37,11 @@ impl fmt::Display for Name {
     }
 }
 
-/// What a frame that was taken did.
-#[derive(Clone, Copy, Debug, PartialEq, Eq)]
-pub struct Received {
-    /// The member had this cast already: nothing changed, and there is nothing to send.
-    pub is_repeat: bool,
-    /// It changed the member: there is an entry of it, the last one.
-    pub is_entered: bool,
-    /// How many events there are more.
-    pub delivered: usize,
-}
-
-/// How many there are to be read.
+/// How many events and entries there are to be read: of the history. Without one: of the last call that was done but `help`; events of a
+/// member that came back: of its journal, until then.
 #[derive(Clone, Copy, Debug, PartialEq, Eq)]
 pub struct Counts {
-    /// Of the last call of `cast`, `cast_burst`, `receive`, `tick` or `help` that was done.
-    pub frames: usize,
-    /// Since the member was opened; without a history, of the last of these calls but `help`.
     pub events: usize,
-    /// Of the history; without one, of that call: 1 or 0, or one of each part that changed the member.
     pub entries: usize,
 }
 
@@ -80,21 +63,20 @@ pub struct Awaited {
 
 /// One member of a group.
 ///
-/// Of one group each member number is opened once in the world. Who begins anew under an old number is ignored by the
-/// others: to come back, write a [`Journal`](crate::Journal), and [`resume`](Member::resume) by it.
+/// Its calls are `cast`, `cast_burst`, `receive`, `receive_loaded`, `receive_parts`, `tick` and `help`. Each answers an [`Output`]: send its
+/// frames and show its events before the next call. All else only reads.
+///
+/// Of one group each member number is opened once in the world. The others ignore a member that begins anew under an old
+/// number: to come back, keep a [`Journal`](crate::Journal).
 pub struct Member {
     /// Open from `open` to `drop`, which all `unsafe` here rests on, as on this: pointers come from references and
     /// slices that do not overlap, and a `Member` is called by one thread at a time. Readings take the handle by a
     /// pointer that may write, too.
     handle: UnsafeCell<sys::jolunza_handle>,
     settings: Settings,
-    /// How many of the events that can be read `new_events` has handed out, and how many it has not.
-    shown: usize,
-    unshown: usize,
-    /// Without a history: how many entries were added since it was opened or came back. Only those of the last call can be read.
-    entered: usize,
-    /// What is known of the frames of the last call that was done.
-    left: Left,
+    keeps_history: bool,
+    /// How many events its history has; 0 without one.
+    events_made: usize,
     frames: FrameBuffer,
     events: EventBuffer,
     entry: EntryBuffer,
@@ -102,42 +84,49 @@ pub struct Member {
 
 const CLOSED: sys::jolunza_handle = sys::jolunza_handle { at: ptr::null_mut(), is_open: false };
 
-/// The frames that a call left: none, the one of a cast or a burst, or any number.
-#[derive(Clone, Copy)]
-enum Left {
-    NoFrame,
-    OneFrame,
-    Frames,
-}
-
 // An open handle may go to another thread, as is proved of the library. Two calls at once it may not take, and the cell
 // keeps a `Member` from being `Sync`.
 unsafe impl Send for Member {}
 
 impl Member {
-    /// A member that has done nothing. The first that holds: `BadGroup`, `BadMember`, `BadLimit`; or `NoMemory`.
+    /// A member that has done nothing, and keeps no history: its memory stays bounded. The first that holds: `BadGroup`, `BadMember`; or
+    /// `NoMemory`.
     pub fn open(settings: Settings) -> Result<Member, Refusal> {
-        let Settings { group, size, window, me, history_max } = settings;
-        let mut handle = CLOSED;
-        answered(unsafe { sys::jolunza_open(&mut handle, group, size, window, me, history_max) })?;
-        Ok(Member::over(handle, settings))
+        Member::open_with_history(settings, 0)
     }
 
-    /// The member whose journal these bytes are, as it was after the last whole line: its time, its events, its history, and each
-    /// frame that it will send. Nothing is to be sent, and `new_events` hands out all its events, from the first one on; without a
-    /// history before its next call.
+    /// A member that has done nothing, and keeps all that it does, for an audit: at most `history_max` entries, up to 16,777,216. Then its
+    /// calls are refused with `HistoryFull`. With 0 it keeps none. The first that holds: `BadGroup`, `BadMember`, `BadLimit`; or
+    /// `NoMemory`.
+    pub fn open_with_history(settings: Settings, history_max: usize) -> Result<Member, Refusal> {
+        let Settings { group, size, window, me } = settings;
+        let mut handle = CLOSED;
+        answered(unsafe { sys::jolunza_open(&mut handle, group, size, window, me, history_max) })?;
+        Ok(Member::over(handle, settings, history_max > 0))
+    }
+
+    /// The member whose journal these bytes are, as it was after the last whole line: its time, its events, and each frame that it will
+    /// send. Nothing is to be sent. It keeps no history.
     ///
     /// ```
     /// # use jolunza::{Member, Settings};
-    /// # let mut anna = Member::open(Settings { group: 7, size: 3, window: 4, me: 0, history_max: 100 })?;
+    /// # let mut anna = Member::open(Settings { group: 7, size: 3, window: 4, me: 0 })?;
     /// let mut journal = anna.journal_head()?;
-    /// anna.cast(b"when?")?;
+    /// let frames: Vec<Vec<u8>> = anna.cast(b"when?")?.frames().map(|frame| frame.bytes.to_vec()).collect();
     /// journal += &anna.journal_line(0)?;
-    /// let back = Member::resume(journal.as_bytes(), 100)?;
-    /// assert_eq!((back.member.settings(), back.entries, back.read), (anna.settings(), 1, journal.len()));
+    /// let mut back = Member::resume(journal.as_bytes())?;
+    /// assert_eq!((back.entries(), back.read()), (1, journal.len()));
+    /// assert_eq!(back.events(..).next().unwrap().payload, b"when?");
+    /// let anna = back.into_member();
+    /// # assert_eq!(anna.time(), [1, 0, 0]);
     /// # Ok::<(), Box<dyn std::error::Error>>(())
     /// ```
-    pub fn resume(journal: &[u8], history_max: usize) -> Result<Resumed, ResumeFault> {
+    pub fn resume(journal: &[u8]) -> Result<Resumed, ResumeFault> {
+        Member::resume_with_history(journal, 0)
+    }
+
+    /// As `resume`, with a history of at most `history_max` entries, which begins with those of the journal.
+    pub fn resume_with_history(journal: &[u8], history_max: usize) -> Result<Resumed, ResumeFault> {
         let (mut handle, mut read) = (CLOSED, sys::jolunza_journal::default());
         let (at, length) = (journal.as_ptr(), journal.len());
         let code = unsafe { sys::jolunza_resume(&mut handle, at, length, history_max, &mut read) };
@@ -145,20 +134,18 @@ impl Member {
             return Err(ResumeFault::of(code, read.line));
         }
         let sys::jolunza_journal { group, size, window, me, entries, read, .. } = read;
-        let mut member = Member::over(handle, Settings { group, size, window, me, history_max });
-        member.unshown = member.counts().events;
-        Ok(Resumed { member, entries, read })
+        let mut member = Member::over(handle, Settings { group, size, window, me }, history_max > 0);
+        member.events_made = member.kept_counts().events;
+        Ok(Resumed::of(member, entries, read))
     }
 
     /// What is known of a member whose handle was just opened.
-    fn over(handle: sys::jolunza_handle, settings: Settings) -> Member {
+    fn over(handle: sys::jolunza_handle, settings: Settings, keeps_history: bool) -> Member {
         Member {
             handle: UnsafeCell::new(handle),
             settings,
-            shown: 0,
-            unshown: 0,
-            entered: 0,
-            left: Left::NoFrame,
+            keeps_history,
+            events_made: 0,
             frames: FrameBuffer::new(),
             events: EventBuffer::new(settings.size as usize),
             entry: EntryBuffer::new(),
@@ -169,42 +156,41 @@ impl Member {
         self.settings
     }
 
-    /// Casts a message: the last event is the message, and the one frame is for all others.
+    /// Casts a message: the one event is the message, and the one frame is for all others.
     #[inline]
-    pub fn cast(&mut self, payload: &[u8]) -> Result<(), Refusal> {
+    pub fn cast(&mut self, payload: &[u8]) -> Result<Output<'_>, Refusal> {
         answered(unsafe { sys::jolunza_cast(self.handle.get(), payload.as_ptr(), payload.len()) })?;
-        self.add_events(1, 1);
-        self.left = Left::OneFrame;
-        Ok(())
+        Ok(self.output(Left::OneFrame, 1, 1))
     }
 
-    /// Casts the messages of a burst, 1 to 32, in one frame, which is for all others; the last events are the messages,
-    /// each with a number and a time of its own. There is one entry of all.
+    /// Casts the messages of a burst, 1 to 32, in one frame, which is for all others; the events are the messages, each with a number and
+    /// a time of its own. There is one entry of all.
     ///
     /// ```
     /// # use jolunza::{Member, Refusal, Settings};
-    /// # let open = |me| Member::open(Settings { group: 7, size: 3, window: 4, me, history_max: 100 });
+    /// # let open = |me| Member::open(Settings { group: 7, size: 3, window: 4, me });
     /// # let (mut anna, mut bert) = (open(0)?, open(1)?);
-    /// anna.cast_burst(&[b"when?", b"where?"])?;
-    /// bert.receive(anna.frames().next().unwrap().bytes)?;
-    /// let shown: Vec<_> = bert.new_events().map(|event| (event.name.number, event.payload.to_vec())).collect();
-    /// assert_eq!(shown, [(1, b"when?".to_vec()), (2, b"where?".to_vec())]);
+    /// let mut output = anna.cast_burst(&[b"when?", b"where?"])?;
+    /// let mut received = bert.receive(output.frames().next().unwrap().bytes)?;
+    /// let shown: Vec<_> = received.events().map(|event| (event.name.number, event.payload)).collect();
+    /// assert_eq!(shown, [(1, &b"when?"[..]), (2, &b"where?"[..])]);
     /// # Ok::<(), Refusal>(())
     /// ```
-    pub fn cast_burst(&mut self, payloads: &[&[u8]]) -> Result<(), Refusal> {
+    pub fn cast_burst(&mut self, payloads: &[&[u8]]) -> Result<Output<'_>, Refusal> {
         let bytes = payloads.concat();
         let lengths: Vec<usize> = payloads.iter().map(|payload| payload.len()).collect();
         let (at, count) = (lengths.as_ptr(), lengths.len());
         answered(unsafe { sys::jolunza_cast_burst(self.handle.get(), bytes.as_ptr(), bytes.len(), at, count) })?;
-        self.add_events(payloads.len(), 1);
-        self.left = Left::OneFrame;
-        Ok(())
+        Ok(self.output(Left::OneFrame, payloads.len(), 1))
     }
 
-    /// Takes received bytes: one frame, whole. What is delivered are the last events; the frames answer a request for casts
-    /// of this member, or a help frame, which asks this member for casts of another.
+    /// Takes received bytes: one frame, whole. The events are what it delivered; the frames answer a request for casts of this member,
+    /// or a help frame, which asks this member for casts of another.
+    ///
+    /// Bytes come from anywhere, so a refusal is no reason to end: where [`is_frame_fault`](Refusal::is_frame_fault), drop the frame, count
+    /// it, and receive the next one.
     #[inline]
-    pub fn receive(&mut self, bytes: &[u8]) -> Result<Received, Refusal> {
+    pub fn receive(&mut self, bytes: &[u8]) -> Result<Output<'_>, Refusal> {
         let mut received = sys::jolunza_received::default();
         let code = unsafe { sys::jolunza_receive(self.handle.get(), bytes.as_ptr(), bytes.len(), &mut received) };
         answered(code)?;
@@ -223,23 +209,21 @@ impl Member {
     ///
     /// ```
     /// # use jolunza::{Member, Refusal, Settings};
-    /// # let open = |me| Member::open(Settings { group: 7, size: 3, window: 4, me, history_max: 100 });
+    /// # let open = |me| Member::open(Settings { group: 7, size: 3, window: 4, me });
     /// # let (mut anna, mut bert) = (open(0)?, open(1)?);
     /// let (mut inbox, mut ends) = (Vec::new(), vec![0]);
     /// for text in ["when?", "where?"] {
-    ///     anna.cast(text.as_bytes())?;
-    ///     inbox.extend_from_slice(anna.frames().next().unwrap().bytes);
+    ///     inbox.extend_from_slice(anna.cast(text.as_bytes())?.frames().next().unwrap().bytes);
     ///     ends.push(inbox.len());
     /// }
     /// bert.load(&inbox)?;
     /// for part in ends.windows(2) {
-    ///     bert.receive_loaded(part[0]..part[1])?;
+    ///     assert_eq!(bert.receive_loaded(part[0]..part[1])?.events().len(), 1);
     /// }
-    /// assert_eq!(bert.new_events().len(), 2);
     /// # Ok::<(), Refusal>(())
     /// ```
     #[inline]
-    pub fn receive_loaded(&mut self, part: Range<usize>) -> Result<Received, Refusal> {
+    pub fn receive_loaded(&mut self, part: Range<usize>) -> Result<Output<'_>, Refusal> {
         let mut received = sys::jolunza_received::default();
         let code = unsafe { sys::jolunza_receive_loaded(self.handle.get(), part.start, part.len(), &mut received) };
         answered(code)?;
@@ -247,8 +231,8 @@ impl Member {
     }
 
     /// Takes parts of the loaded bytes in one call, one after another as `receive_loaded` takes one: the first part from
-    /// `first` on, each other from the end of the one before it on, and `lengths` says how long each is. Tells how many
-    /// were taken. One at least is, else the refusal is that of the first part, and nothing has changed.
+    /// `first` on, each other from the end of the one before it on, and `lengths` says how long each is. Answers how many
+    /// were taken, and what they did. One at least is, else the refusal is that of the first part, and nothing has changed.
     ///
     /// A part that leaves frames to be sent is the last that is taken, so the frames are its own. Else fewer than all are
     /// taken where the next part is refused: call again from that part on, and the refusal tells why. Events are those of
@@ -256,120 +240,117 @@ impl Member {
     ///
     /// ```
     /// # use jolunza::{Member, Refusal, Settings};
-    /// # let open = |me| Member::open(Settings { group: 7, size: 3, window: 4, me, history_max: 100 });
+    /// # let open = |me| Member::open(Settings { group: 7, size: 3, window: 4, me });
     /// # let (mut anna, mut bert) = (open(0)?, open(1)?);
     /// let (mut inbox, mut lengths) = (Vec::new(), Vec::new());
     /// for text in ["when?", "where?"] {
-    ///     anna.cast(text.as_bytes())?;
-    ///     let bytes = anna.frames().next().unwrap().bytes;
+    ///     let mut output = anna.cast(text.as_bytes())?;
+    ///     let bytes = output.frames().next().unwrap().bytes;
     ///     inbox.extend_from_slice(bytes);
     ///     lengths.push(bytes.len());
     /// }
     /// bert.load(&inbox)?;
-    /// assert_eq!(bert.receive_parts(0, &lengths)?, 2);
-    /// assert_eq!(bert.new_events().len(), 2);
+    /// let (taken, mut output) = bert.receive_parts(0, &lengths)?;
+    /// assert_eq!((taken, output.events().len()), (2, 2));
     /// # Ok::<(), Refusal>(())
     /// ```
-    pub fn receive_parts(&mut self, first: usize, lengths: &[usize]) -> Result<usize, Refusal> {
+    pub fn receive_parts(&mut self, first: usize, lengths: &[usize]) -> Result<(usize, Output<'_>), Refusal> {
         let (at, count) = (lengths.as_ptr(), lengths.len());
-        let mut taken = 0;
+        let (before, mut taken) = (self.kept_counts(), 0);
         answered(unsafe { sys::jolunza_receive_parts(self.handle.get(), first, at, count, &mut taken) })?;
-        let counts = self.counts();
-        let before = if self.settings.history_max == 0 { 0 } else { self.shown + self.unshown };
-        self.add_events(counts.events - before, counts.entries);
-        self.left = if counts.frames == 0 { Left::NoFrame } else { Left::Frames };
-        Ok(taken)
+        let Counts { events, entries } = self.counts();
+        Ok((taken, self.output(Left::Frames, events - before.events, entries - before.entries)))
     }
 
     /// Bytes were received, and did this.
     #[inline]
-    fn taken(&mut self, received: sys::jolunza_received) -> Received {
+    fn taken(&mut self, received: sys::jolunza_received) -> Output<'_> {
         let sys::jolunza_received { is_repeat, is_entered, delivered } = received;
-        self.add_events(delivered, usize::from(is_entered));
         // frames answer a request or a help frame, which are never entered
-        self.left = if is_repeat || is_entered { Left::NoFrame } else { Left::Frames };
-        Received { is_repeat, is_entered, delivered }
+        let left = if is_repeat || is_entered { Left::NoFrame } else { Left::Frames };
+        let done = Done { is_repeat, ..self.done(left, delivered, usize::from(is_entered)) };
+        Output::of(self, done)
     }
 
-    /// The frames are the member's status, for all others, and a request to each member of whom something is missing.
+    /// The frames are the member's status, for all others, and a request to each member of whom something is missing. There is no event,
+    /// and an entry where the status has news.
     #[inline]
-    pub fn tick(&mut self) -> Result<(), Refusal> {
+    pub fn tick(&mut self) -> Result<Output<'_>, Refusal> {
+        let before = self.kept_counts().entries;
         answered(unsafe { sys::jolunza_tick(self.handle.get()) })?;
-        let entered = if self.settings.history_max == 0 { self.counts().entries } else { 0 };
-        self.add_events(0, entered);
-        self.left = Left::Frames;
-        Ok(())
+        let entries = self.counts().entries - before;
+        Ok(self.output(Left::Frames, 0, entries))
     }
 
-    /// Asks a third member for the missing casts of another member, for where that one is silent: the one frame goes to the
+    /// Asks a third member for the missing casts of another member, for where that one is silent: the one frame is for the
     /// first member, other than both, that is known to have delivered the first of them. There is no frame where none is
-    /// missing, or nobody is known to have it. The member and its events stay as they are. `BadMember` of this one and of who
-    /// is none.
+    /// missing, or nobody is known to have it. There is no event, and the member stays as it is. `BadMember` of this one and of
+    /// a number that no member has.
     ///
     /// ```
     /// # use jolunza::{Member, Refusal, Settings};
-    /// # let open = |me| Member::open(Settings { group: 7, size: 3, window: 4, me, history_max: 100 });
+    /// # let open = |me| Member::open(Settings { group: 7, size: 3, window: 4, me });
     /// # let (mut anna, mut bert, mut cleo) = (open(0)?, open(1)?, open(2)?);
-    /// anna.cast(b"when?")?; // which does not come to Cleo, and then Anna is silent
-    /// bert.receive(anna.frames().next().unwrap().bytes)?;
-    /// bert.tick()?;
-    /// cleo.receive(bert.frames().next().unwrap().bytes)?;
-    /// cleo.help(0)?;
-    /// let help = cleo.frames().next().unwrap();
+    /// // Anna's cast does not come to Cleo, and then Anna is silent
+    /// bert.receive(anna.cast(b"when?")?.frames().next().unwrap().bytes)?.events().for_each(drop);
+    /// let mut status = cleo.receive(bert.tick()?.frames().next().unwrap().bytes)?;
+    /// # assert_eq!(status.frames().len(), 0);
+    /// let mut output = cleo.help(0)?;
+    /// let help = output.frames().next().unwrap();
     /// assert_eq!(help.to, Some(1));
-    /// bert.receive(help.bytes)?;
-    /// cleo.receive(bert.frames().next().unwrap().bytes)?;
-    /// assert_eq!(cleo.new_events().next().unwrap().payload, b"when?");
+    /// let mut answer = bert.receive(help.bytes)?;
+    /// let mut received = cleo.receive(answer.frames().next().unwrap().bytes)?;
+    /// assert_eq!(received.events().next().unwrap().payload, b"when?");
     /// # Ok::<(), Refusal>(())
     /// ```
     #[inline]
-    pub fn help(&mut self, member: u32) -> Result<(), Refusal> {
+    pub fn help(&mut self, member: u32) -> Result<Output<'_>, Refusal> {
         answered(unsafe { sys::jolunza_help(self.handle.get(), member) })?;
-        self.left = Left::Frames;
-        Ok(())
+        Ok(self.output(Left::Frames, 0, 0))
     }
 
-    /// A call that was done has made so many, and without a history added so many entries. Those of the call before can't be read
-    /// any more then.
+    /// A call was done, which left these frames, and made this many events and entries.
     #[inline]
-    fn add_events(&mut self, more: usize, entered: usize) {
-        if self.settings.history_max == 0 {
-            (self.shown, self.unshown) = (0, 0);
-            self.entered += entered;
+    fn output(&mut self, left: Left, events: usize, entries: usize) -> Output<'_> {
+        let done = self.done(left, events, entries);
+        Output::of(self, done)
+    }
+
+    #[inline]
+    fn done(&mut self, left: Left, events: usize, entries: usize) -> Done {
+        let first = self.events_made;
+        if self.keeps_history {
+            self.events_made += events;
         }
-        self.unshown += more;
+        Done { left, is_repeat: false, first, events, entries }
     }
 
-    /// The frames of the last call of `cast`, `cast_burst`, `receive`, `tick` or `help` that was done.
+    /// The frames of the last call that was done, which is this one.
     #[inline]
-    pub fn frames(&mut self) -> Frames<'_> {
-        match self.left {
+    pub(crate) fn frames_of(&mut self, done: Done) -> Frames<'_> {
+        match done.left {
             Left::NoFrame => Frames::default(),
             Left::OneFrame => unsafe { self.frames.fill_one(self.handle.get()) },
             Left::Frames => unsafe { self.frames.fill(self.handle.get()) },
         }
     }
 
-    /// The events that this function has not handed out yet. They count as handed out, also where a loop over them ends
-    /// early. Without a history those of a call are there until the next one is done.
+    /// The events of the last call that was done, which is this one.
     #[inline]
-    pub fn new_events(&mut self) -> Events<'_> {
-        let events = unsafe { self.events.fill(self.handle.get(), self.shown, self.unshown) };
-        self.shown += events.len();
-        self.unshown -= events.len();
-        events
+    pub(crate) fn events_of(&mut self, done: Done) -> Events<'_> {
+        unsafe { self.events.fill(self.handle.get(), done.first, done.events) }
     }
 
-    /// The events of these indexes, from 0, as far as there are: `events(..)` has all. They are copied at once, so a
-    /// long history is read in pieces: `events(0..1000)`. Without a history there are those of the last call.
+    /// The events of the history of these indexes, from 0, as far as there are: `events(..)` has all. They are copied at once, so a
+    /// long history is read in pieces: `events(0..1000)`. Without a history there are those that [`Counts`] counts.
     pub fn events(&mut self, indexes: impl RangeBounds<usize>) -> Events<'_> {
         let first = first_of(&indexes);
         let most = end_of(&indexes).saturating_sub(first);
         unsafe { self.events.fill(self.handle.get(), first, most) }
     }
 
-    /// An entry of the history, from 0. Without a history `entry(0)` is what the last call would have added to one, and
-    /// `None` where that call has changed nothing.
+    /// An entry of the history, from 0. Without a history there are those that [`Counts`] counts: `entry(0)` is what the last call
+    /// would have added to one, and `None` where that call has changed nothing.
     pub fn entry(&mut self, index: usize) -> Option<Entry<'_>> {
         unsafe { self.entry.fill(self.handle.get(), index) }
     }
@@ -399,17 +380,21 @@ impl Member {
         Ok(String::from_utf8(text).expect("a line has ASCII alone"))
     }
 
-    /// Without a history: how many entries were added since it was opened or came back.
-    pub(crate) fn entered(&self) -> usize {
-        self.entered
-    }
-
     pub fn counts(&self) -> Counts {
         let mut counts = sys::jolunza_counts::default();
         let code = unsafe { sys::jolunza_count(self.handle.get(), &mut counts) };
         answered(code).expect("an open member has its counts");
-        let sys::jolunza_counts { frames, events, entries } = counts;
-        Counts { frames, events, entries }
+        let sys::jolunza_counts { events, entries, .. } = counts;
+        Counts { events, entries }
+    }
+
+    /// What stays of what is counted over the next call: without a history nothing.
+    fn kept_counts(&self) -> Counts {
+        if self.keeps_history {
+            self.counts()
+        } else {
+            Counts { events: 0, entries: 0 }
+        }
     }
 
     /// How many messages of each member are delivered, own casts included.
@@ -429,27 +414,27 @@ impl Member {
     }
 
     /// How many casts of a member every member other than it is known to have delivered; of this one as `stable`. `BadMember` of
-    /// who is none.
+    /// a number that no member has.
     pub fn stable_of(&self, member: u32) -> Result<u32, Refusal> {
         let mut count = 0;
         answered(unsafe { sys::jolunza_stable_of(self.handle.get(), member, &mut count) })?;
         Ok(count)
     }
 
-    /// How many of this member's casts a member is known to have delivered; this one has delivered all. `BadMember` of who is none.
+    /// How many of this member's casts a member is known to have delivered; this one has delivered all. `BadMember` of a number that
+    /// no member has.
     pub fn acknowledged_by(&self, member: u32) -> Result<u32, Refusal> {
         let mut count = 0;
         answered(unsafe { sys::jolunza_acknowledged_by(self.handle.get(), member, &mut count) })?;
         Ok(count)
     }
 
-    /// Whether another member keeps the window full: it is not known to have delivered any of the last casts of this one, of as many
-    /// as the window is wide.
-    pub fn keeps_window_full(&self, member: u32) -> bool {
+    /// Whether another member keeps the window full: of the last casts of this one, that many as the window is wide, it is not known to
+    /// have delivered any. `BadMember` of a number that no member has.
+    pub fn keeps_window_full(&self, member: u32) -> Result<bool, Refusal> {
         let mut full = false;
-        let code = unsafe { sys::jolunza_keeps_window_full(self.handle.get(), member, &mut full) };
-        answered(code).expect("an open member has its window");
-        full
+        answered(unsafe { sys::jolunza_keeps_window_full(self.handle.get(), member, &mut full) })?;
+        Ok(full)
     }
 
     /// How many messages wait: they were received and are not delivered, since something before them is missing.
@@ -460,16 +445,20 @@ impl Member {
         count
     }
 
-    /// The first message of a member that waits, and what it waits for; `None` where none of it waits, and of who is no member.
-    pub fn waits_for(&self, member: u32) -> Option<Delayed> {
+    /// The first message of a member that waits, and what it waits for; `None` where none of it waits. `BadMember` of a number that no
+    /// member has.
+    pub fn waits_for(&self, member: u32) -> Result<Option<Delayed>, Refusal> {
         let mut delayed = sys::jolunza_delayed::default();
-        answered(unsafe { sys::jolunza_waits_for(self.handle.get(), member, &mut delayed) }).ok()?;
+        match answered(unsafe { sys::jolunza_waits_for(self.handle.get(), member, &mut delayed) }) {
+            Err(Refusal::NoneThere) => return Ok(None),
+            answer => answer?,
+        }
         let sys::jolunza_delayed { is_ready, number, sender, first, last } = delayed;
         let awaits = (!is_ready).then_some(Awaited { sender, numbers: first..=last });
-        Some(Delayed { name: Name { sender: member, number }, awaits })
+        Ok(Some(Delayed { name: Name { sender: member, number }, awaits }))
     }
 
-    /// The casts of another member that are missing, as rising ranges. `BadMember` of this one and of who is none.
+    /// The casts of another member that are missing, as rising ranges. `BadMember` of this one and of a number that no member has.
     pub fn missing(&self, member: u32) -> Result<Vec<RangeInclusive<u32>>, Refusal> {
         let mut ranges = [sys::jolunza_range::default(); MOST_RANGES];
         let mut count = 0;

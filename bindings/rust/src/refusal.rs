@@ -4,8 +4,9 @@ use crate::sys;
 use std::error::Error;
 use std::fmt;
 
-/// Why a call was not done. The member, its events, its history and the frames of its last call are as they were.
+/// Why a call was not done. The member, its events and its history are as they were.
 #[derive(Clone, Copy, Debug, PartialEq, Eq, Hash)]
+#[non_exhaustive]
 pub enum Refusal {
     /// The handle holds no member. No `Member` answers this, since it is open as long as there is one.
     Closed,
@@ -13,18 +14,18 @@ pub enum Refusal {
     NoMemory,
     /// `open`: the size is not 2 to 64, or the window not 1 to 256.
     BadGroup,
-    /// `open`, `receive`, `help`, `missing`, `stable_of`, `acknowledged_by`: a member's number that the group does not have;
-    /// `help`, `missing`: the member's own.
+    /// `open`, `receive`, and each call and reading that takes a member's number: the group has no member of this number; `help`,
+    /// `missing`: it is this member's own.
     BadMember,
-    /// `open`: the limit of the history is above 16,777,216.
+    /// `open_with_history`: the limit of the history is above 16,777,216.
     BadLimit,
     /// `cast`: more than 1,024 bytes; `cast_burst`: all payloads together.
     PayloadTooLong,
     /// `cast`, `cast_burst`: wait for the others' statuses, keep the payloads, try again. A burst wants room for all its
     /// messages; one of more than the window never has it.
     WindowFull,
-    /// `cast`, `cast_burst`, `receive`, `tick`: as many entries as the limit. Begin a new group number. Never without a
-    /// history.
+    /// `cast`, `cast_burst`, `receive`, `tick`: the history has as many entries as its limit. Begin a new group number. Never without
+    /// a history.
     HistoryFull,
     /// `receive`: drop the frame.
     OtherGroup,
@@ -34,8 +35,7 @@ pub enum Refusal {
     TooFar,
     /// `receive`: no frame. Drop the bytes.
     Malformed,
-    /// `receive_loaded`: not all of these bytes are loaded; `journal_line`: there is no such entry. Of an index that is not
-    /// below the count other calls of a `Member` answer `None` instead.
+    /// `receive_loaded`, `receive_parts`: not all of these bytes are loaded; `journal_line`: there is no such entry.
     NoneThere,
     /// `receive`: a part of the burst was received before, and a part was not. Drop the frame.
     Overlap,
@@ -66,6 +66,18 @@ impl Refusal {
         Refusal::EmptyBurst,
         Refusal::BurstTooLong,
     ];
+
+    /// `receive`: drop the frame, count it, and receive the next one. `Malformed`, `OtherGroup`, `BadMember`, `Impossible`, `TooFar`,
+    /// `Overlap`, and what a later library refuses.
+    pub fn is_frame_fault(self) -> bool {
+        use Refusal::{BadMember, Impossible, Malformed, OtherGroup, Overlap, TooFar, Unknown};
+        matches!(self, Malformed | OtherGroup | BadMember | Impossible | TooFar | Overlap | Unknown(_))
+    }
+
+    /// The same call may be done later: `WindowFull`, `NoMemory`.
+    pub fn is_transient(self) -> bool {
+        matches!(self, Refusal::WindowFull | Refusal::NoMemory)
+    }
 
     /// The code in jolunza.h.
     pub fn code(self) -> u32 {
@@ -107,27 +119,42 @@ pub(crate) fn answered(code: u32) -> Result<(), Refusal> {
     }
 }
 
+/// What a code of jolunza.h says, in the words of its `jolunza_text`. bindings/check_header.py compares the two.
+pub(crate) fn text_of(code: u32) -> &'static str {
+    match code {
+        sys::JOLUNZA_DONE => "done",
+        sys::JOLUNZA_CLOSED => "the handle holds no member",
+        sys::JOLUNZA_NO_MEMORY => "out of memory: try again",
+        sys::JOLUNZA_BAD_GROUP => "a group has 2 to 64 members and a window of 1 to 256",
+        sys::JOLUNZA_BAD_MEMBER => "the group has no such member, or the call wants another one than this member",
+        sys::JOLUNZA_BAD_LIMIT => "a history has at most 16,777,216 entries",
+        sys::JOLUNZA_PAYLOAD_TOO_LONG => "a cast or a burst carries at most 1,024 bytes of payloads",
+        sys::JOLUNZA_WINDOW_FULL => "the window is full: try again after the next frame",
+        sys::JOLUNZA_HISTORY_FULL => "the history is full: begin a new group number",
+        sys::JOLUNZA_OTHER_GROUP => "the frame is of another group: drop it",
+        sys::JOLUNZA_IMPOSSIBLE => "the frame says of this member what it never did: drop it",
+        sys::JOLUNZA_TOO_FAR => "the frame is beyond the window: drop it, it comes again",
+        sys::JOLUNZA_MALFORMED => "the bytes are no frame: drop them",
+        sys::JOLUNZA_NONE_THERE => {
+            "nothing is there: no such index, fewer bytes than the lengths say, or no message that waits"
+        }
+        sys::JOLUNZA_OVERLAP => "a part of the burst was received before: drop the frame",
+        sys::JOLUNZA_EMPTY_BURST => "a burst has at least one payload",
+        sys::JOLUNZA_BURST_TOO_LONG => "a burst has at most 32 payloads",
+        sys::JOLUNZA_NO_HEAD => "the journal has no whole line",
+        sys::JOLUNZA_BAD_LINE => "a line of the journal is damaged",
+        sys::JOLUNZA_TOO_LONG => "the journal has more entries than the history may have",
+        sys::JOLUNZA_NOT_LEGAL => "a line of the journal tells what no call of the member does",
+        _ => "unknown code",
+    }
+}
+
 impl fmt::Display for Refusal {
     fn fmt(&self, f: &mut fmt::Formatter<'_>) -> fmt::Result {
-        f.write_str(match self {
-            Refusal::Closed => "the handle holds no member",
-            Refusal::NoMemory => "out of memory: try again",
-            Refusal::BadGroup => "a group has 2 to 64 members and a window of 1 to 256",
-            Refusal::BadMember => "the group has no member of this number",
-            Refusal::BadLimit => "a history has at most 16,777,216 entries",
-            Refusal::PayloadTooLong => "a payload, or all of a burst, has at most 1,024 bytes",
-            Refusal::WindowFull => "the window is full: wait for the others' statuses and try again",
-            Refusal::HistoryFull => "the history is full: begin a new group number",
-            Refusal::OtherGroup => "the frame is of another group: drop it",
-            Refusal::Impossible => "the frame says of this member what it never did: drop it",
-            Refusal::TooFar => "the frame is beyond the window: drop it, it comes again",
-            Refusal::Malformed => "the bytes are no frame: drop them",
-            Refusal::NoneThere => "the index is not below the count, or the bytes are not loaded",
-            Refusal::Overlap => "a part of the burst was received before: drop the frame",
-            Refusal::EmptyBurst => "a burst has a payload",
-            Refusal::BurstTooLong => "a burst has at most 32 payloads",
-            Refusal::Unknown(code) => return write!(f, "code {code} of a later library: nothing has changed"),
-        })
+        match self {
+            Refusal::Unknown(code) => write!(f, "{} {code}", text_of(*code)),
+            _ => f.write_str(text_of(self.code())),
+        }
     }
 }
 
@@ -146,9 +173,15 @@ mod tests {
         }
         assert_eq!(answered(sys::JOLUNZA_DONE), Ok(()));
         let unknown = Refusal::Unknown(21);
-        assert_eq!(
-            (answered(21), unknown.to_string()),
-            (Err(unknown), "code 21 of a later library: nothing has changed".into())
-        );
+        assert_eq!((answered(21), unknown.to_string()), (Err(unknown), "unknown code 21".into()));
+    }
+
+    #[test]
+    fn what_is_dropped_and_what_is_tried_again() {
+        use Refusal::{BadMember, Impossible, Malformed, NoMemory, OtherGroup, Overlap, TooFar, Unknown, WindowFull};
+        let all = || Refusal::ALL.into_iter().chain([Unknown(21)]);
+        let dropped = [BadMember, OtherGroup, Impossible, TooFar, Malformed, Overlap, Unknown(21)];
+        assert!(all().filter(|refusal| refusal.is_frame_fault()).eq(dropped));
+        assert!(all().filter(|refusal| refusal.is_transient()).eq([NoMemory, WindowFull]));
     }
 }

@@ -1,23 +1,55 @@
 //! What a member that came back was, or why none came back.
 
-use crate::{sys, Member};
+use crate::refusal::text_of;
+use crate::{sys, Events, Member, Settings};
 use std::error::Error;
 use std::fmt;
+use std::ops::RangeBounds;
 
-/// A member that came back by its journal.
+/// A member that came back by its journal: it is as it was after the last whole line.
 #[derive(Debug)]
+#[must_use = "the member made no call since it came back, and its events are to be shown"]
 pub struct Resumed {
-    /// It is as it was after the last whole line. Its settings are those of the journal, for the caller to compare with what it
-    /// expects.
-    pub member: Member,
+    member: Member,
+    entries: usize,
+    read: usize,
+}
+
+impl Resumed {
+    pub(crate) fn of(member: Member, entries: usize, read: usize) -> Resumed {
+        Resumed { member, entries, read }
+    }
+
+    /// Those of the journal, for the caller to compare with what it expects.
+    pub fn settings(&self) -> Settings {
+        self.member.settings()
+    }
+
     /// How many entries the journal has.
-    pub entries: usize,
+    pub fn entries(&self) -> usize {
+        self.entries
+    }
+
     /// How many bytes its whole lines have. The file is to be cut behind them before anything is written.
-    pub read: usize,
+    pub fn read(&self) -> usize {
+        self.read
+    }
+
+    /// What the member cast and delivered before, of these indexes, from 0: `events(..)` has all. A long list is read in pieces, as that
+    /// of [`Member::events`].
+    pub fn events(&mut self, indexes: impl RangeBounds<usize>) -> Events<'_> {
+        self.member.events(indexes)
+    }
+
+    /// The member, for its next call.
+    pub fn into_member(self) -> Member {
+        self.member
+    }
 }
 
 /// Why no member came back by a journal: the first of these that holds, or `NoMemory`. Lines are counted from 1, the head line.
 #[derive(Clone, Copy, Debug, PartialEq, Eq, Hash)]
+#[non_exhaustive]
 pub enum ResumeFault {
     /// No line is whole. Where there is nothing but a beginning of what `journal_head` gives, or nothing at all, nothing was written
     /// yet: open the member, and begin the journal. Else it is no journal: leave it.
@@ -51,16 +83,28 @@ impl ResumeFault {
     }
 }
 
+impl ResumeFault {
+    /// The code in jolunza.h.
+    pub fn code(self) -> u32 {
+        match self {
+            ResumeFault::NoHead => sys::JOLUNZA_NO_HEAD,
+            ResumeFault::BadLine { .. } => sys::JOLUNZA_BAD_LINE,
+            ResumeFault::BadLimit => sys::JOLUNZA_BAD_LIMIT,
+            ResumeFault::TooLong => sys::JOLUNZA_TOO_LONG,
+            ResumeFault::NotLegal { .. } => sys::JOLUNZA_NOT_LEGAL,
+            ResumeFault::NoMemory => sys::JOLUNZA_NO_MEMORY,
+            ResumeFault::Unknown { code } => code,
+        }
+    }
+}
+
 impl fmt::Display for ResumeFault {
     fn fmt(&self, f: &mut fmt::Formatter<'_>) -> fmt::Result {
+        let text = text_of(self.code());
         match self {
-            ResumeFault::NoHead => f.write_str("no line is whole: begin the journal, where nothing was written yet"),
-            ResumeFault::BadLine { line } => write!(f, "line {line} is no line of a journal"),
-            ResumeFault::BadLimit => f.write_str("a history has at most 16,777,216 entries"),
-            ResumeFault::TooLong => f.write_str("the journal has more entries than the history may have"),
-            ResumeFault::NotLegal { line } => write!(f, "line {line} tells what no call of the member does"),
-            ResumeFault::NoMemory => f.write_str("out of memory: try again"),
-            ResumeFault::Unknown { code } => write!(f, "code {code} of a later library"),
+            ResumeFault::BadLine { line } | ResumeFault::NotLegal { line } => write!(f, "line {line}: {text}"),
+            ResumeFault::Unknown { code } => write!(f, "{text} {code}"),
+            _ => f.write_str(text),
         }
     }
 }
@@ -72,10 +116,13 @@ mod tests {
     use super::*;
 
     #[test]
-    fn a_code_of_a_later_library_is_named() {
+    fn each_code_is_that_of_its_fault_and_another_is_named() {
+        for code in (sys::JOLUNZA_NO_HEAD..=sys::JOLUNZA_NOT_LEGAL + 1).chain([sys::JOLUNZA_BAD_LIMIT]) {
+            assert_eq!(ResumeFault::of(code, 3).code(), code);
+        }
         let unknown = ResumeFault::of(sys::JOLUNZA_NOT_LEGAL + 1, 3);
-        assert_eq!(unknown, ResumeFault::Unknown { code: 21 });
-        assert_eq!(unknown.to_string(), "code 21 of a later library");
+        assert_eq!((unknown, unknown.to_string()), (ResumeFault::Unknown { code: 21 }, "unknown code 21".into()));
         assert_eq!(ResumeFault::of(sys::JOLUNZA_NOT_LEGAL, 3), ResumeFault::NotLegal { line: 3 });
+        assert_eq!(ResumeFault::of(sys::JOLUNZA_BAD_LINE, 3).to_string(), "line 3: a line of the journal is damaged");
     }
 }

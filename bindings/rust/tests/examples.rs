@@ -2,13 +2,16 @@
 
 mod text;
 
-use jolunza::{Counts, Entry, Frame, Member, Name, Refusal, Settings, LONGEST_FRAME, LONGEST_PAYLOAD, MOST_MESSAGES};
+use jolunza::{
+    sender, Counts, Entry, Frame, Member, Name, Output, Refusal, Sender, Settings, LONGEST_FRAME, LONGEST_PAYLOAD,
+    MOST_MESSAGES,
+};
 use text::{bytes_of, hexadecimal, printed_time};
 
 const EXAMPLES: &str = include_str!("worked_examples.txt");
 
 fn open(group: u32, size: u32, window: u32, me: u32, history_max: usize) -> Member {
-    Member::open(Settings { group, size, window, me, history_max }).unwrap()
+    Member::open_with_history(Settings { group, size, window, me }, history_max).unwrap()
 }
 
 /// `member 0 of 3 group 7 window 4 history 100`
@@ -29,9 +32,9 @@ fn answer(member: &mut Member, call: &str) -> String {
         "help" => counted(member, |member| help(member, rest.parse().unwrap())),
         "time" => printed_time(&member.time()),
         "stable" => member.stable().to_string(),
-        "stable_of" => stable_of(member, rest.parse().unwrap()),
-        "acknowledged_by" => acknowledged_by(member, rest.parse().unwrap()),
-        "keeps_window_full" => member.keeps_window_full(rest.parse().unwrap()).to_string(),
+        "stable_of" => told(member.stable_of(rest.parse().unwrap())),
+        "acknowledged_by" => told(member.acknowledged_by(rest.parse().unwrap())),
+        "keeps_window_full" => told(member.keeps_window_full(rest.parse().unwrap())),
         "waiting" => member.waiting().to_string(),
         "waits_for" => waits_for(member, rest.parse().unwrap()),
         "missing" => missing(member, rest.parse().unwrap()),
@@ -48,92 +51,90 @@ fn counted(member: &mut Member, call: impl Fn(&mut Member) -> Result<String, Ref
 }
 
 fn cast(member: &mut Member, payload: &[u8]) -> Result<String, Refusal> {
-    member.cast(payload)?;
-    let events = member.counts().events;
-    let event = member.events(events - 1..).next().unwrap();
-    assert_eq!((event.is_own, event.payload), (true, payload));
+    let mut output = member.cast(payload)?;
+    let mut events = output.events();
+    let (event, rest) = (events.next().unwrap(), events.len());
+    assert_eq!((event.is_own, event.payload, rest), (true, payload, 0));
     let name = format!("{} {}", event.name, printed_time(event.time));
-    let frames: Vec<Frame> = member.frames().collect();
-    let [Frame { to: None, bytes }] = frames[..] else { panic!("{frames:?}") };
-    Ok(format!("{name} {}", hexadecimal(bytes)))
+    Ok(format!("{name} {}", hexadecimal(&the_frame(&mut output))))
 }
 
 fn burst(member: &mut Member, words: &str) -> Result<String, Refusal> {
     let payloads: Vec<Vec<u8>> = words.split_whitespace().map(bytes_of).collect();
     let before = member.counts();
-    member.cast_burst(&payloads.iter().map(Vec::as_slice).collect::<Vec<_>>())?;
-    assert_eq!(
-        member.counts(),
-        Counts { frames: 1, events: before.events + payloads.len(), entries: before.entries + 1 }
-    );
+    let mut output = member.cast_burst(&payloads.iter().map(Vec::as_slice).collect::<Vec<_>>())?;
+    assert_eq!(output.events().len(), payloads.len());
     let mut messages = Vec::new();
-    for (event, payload) in member.events(before.events..).zip(&payloads) {
+    for (event, payload) in output.events().zip(&payloads) {
         assert_eq!((event.is_own, event.payload), (true, &payload[..]));
         messages.push(format!("{} {}", event.name, printed_time(event.time)));
     }
-    let frames: Vec<Frame> = member.frames().collect();
+    let frame = the_frame(&mut output);
+    let counts = Counts { events: before.events + payloads.len(), entries: before.entries + 1 };
+    assert_eq!(member.counts(), counts);
+    Ok(format!("{} {}", messages.join(", "), hexadecimal(&frame)))
+}
+
+/// The one frame of a cast or a burst, for all others.
+fn the_frame(output: &mut Output<'_>) -> Vec<u8> {
+    let frames: Vec<Frame> = output.frames().collect();
     let [Frame { to: None, bytes }] = frames[..] else { panic!("{frames:?}") };
-    Ok(format!("{} {}", messages.join(", "), hexadecimal(bytes)))
+    bytes.to_vec()
 }
 
 fn take(member: &mut Member, bytes: &[u8]) -> Result<String, Refusal> {
     let before = member.counts();
-    let received = member.receive(bytes)?;
-    let after = member.counts();
-    assert_eq!(after.events - before.events, received.delivered);
-    assert_eq!(after.entries - before.entries, usize::from(received.is_entered));
-    if received.is_repeat {
-        assert_eq!(after.frames, 0);
-        return Ok("repeat".into());
-    }
-    let changed = if received.is_entered { "changed" } else { "unchanged" };
-    let mut text = changed.to_string();
-    for event in member.events(before.events..) {
+    let mut output = member.receive(bytes)?;
+    let (is_repeat, is_entered, delivered) = (output.is_repeat(), output.is_entered(), output.events().len());
+    let mut text = if is_entered { "changed" } else { "unchanged" }.to_string();
+    for event in output.events() {
         assert!(!event.is_own);
         text += &format!(", {} {} ({})", event.name, printed_time(event.time), hexadecimal(event.payload));
     }
-    Ok(text + &frames(member))
+    text += &frames(&mut output);
+    let counts = Counts { events: before.events + delivered, entries: before.entries + usize::from(is_entered) };
+    assert_eq!(member.counts(), counts);
+    if is_repeat {
+        assert_eq!(text, "unchanged");
+        return Ok("repeat".into());
+    }
+    Ok(text)
 }
 
 fn tick(member: &mut Member) -> Result<String, Refusal> {
-    let before = member.counts().entries;
-    member.tick()?;
-    let entered = if member.counts().entries > before { "entered" } else { "not entered" };
-    Ok(entered.to_string() + &frames(member))
+    let before = member.counts();
+    let mut output = member.tick()?;
+    let is_entered = output.is_entered();
+    let text = if is_entered { "entered" } else { "not entered" }.to_string() + &frames(&mut output);
+    assert_eq!(output.events().len(), 0);
+    assert_eq!(member.counts(), Counts { entries: before.entries + usize::from(is_entered), ..before });
+    Ok(text)
 }
 
 fn help(member: &mut Member, other: u32) -> Result<String, Refusal> {
     let before = member.counts();
-    member.help(other)?;
-    assert_eq!(Counts { frames: before.frames, ..member.counts() }, before);
-    let text = frames(member);
+    let mut output = member.help(other)?;
+    assert_eq!((output.is_entered(), output.events().len()), (false, 0));
+    let text = frames(&mut output);
+    assert_eq!(member.counts(), before);
     Ok(text.strip_prefix(", ").unwrap_or("none").into())
 }
 
-fn frames(member: &mut Member) -> String {
-    let count = member.counts().frames;
-    let frames = member.frames();
-    assert_eq!(frames.len(), count);
+fn frames(output: &mut Output<'_>) -> String {
     let to = |to: Option<u32>| to.map_or("all".into(), |member| member.to_string());
-    frames.map(|frame| format!(", to {}: {}", to(frame.to), hexadecimal(frame.bytes))).collect()
+    output.frames().map(|frame| format!(", to {}: {}", to(frame.to), hexadecimal(frame.bytes))).collect()
 }
 
-fn stable_of(member: &Member, other: u32) -> String {
-    match member.stable_of(other) {
-        Ok(count) => count.to_string(),
-        Err(refusal) => format!("{refusal:?}"),
-    }
-}
-
-fn acknowledged_by(member: &Member, other: u32) -> String {
-    match member.acknowledged_by(other) {
-        Ok(count) => count.to_string(),
-        Err(refusal) => format!("{refusal:?}"),
-    }
+fn told(reading: Result<impl ToString, Refusal>) -> String {
+    reading.map_or_else(|refusal| format!("{refusal:?}"), |told| told.to_string())
 }
 
 fn waits_for(member: &Member, other: u32) -> String {
-    let Some(delayed) = member.waits_for(other) else { return "none".into() };
+    let delayed = match member.waits_for(other) {
+        Ok(Some(delayed)) => delayed,
+        Ok(None) => return "none".into(),
+        Err(refusal) => return format!("{refusal:?}"),
+    };
     let Some(awaits) = delayed.awaits else { return format!("{}: the next cast", delayed.name) };
     let numbers = awaits.numbers;
     format!("{}: {}.{}-{}", delayed.name, awaits.sender, numbers.start(), numbers.end())
@@ -186,11 +187,11 @@ fn each_call_of_the_table_has_its_answer() {
 }
 
 #[test]
-fn a_member_of_five_casts_behind_200_more() {
+fn a_member_of_five_casts_after_200_more() {
     let mut member = open(300, 5, 4, 2, 1_000);
     let casts = (1..=3).map(|number| (0, number)).chain([(4, 1), (4, 2), (1, 1)]);
     for (sender, number) in casts {
-        member.receive(&[0x11, 0xac, 0x02, sender, number, 0, 0]).unwrap();
+        assert_eq!(member.receive(&[0x11, 0xac, 0x02, sender, number, 0, 0]).unwrap().events().len(), 1);
     }
     assert_eq!(answer(&mut member, "cast -"), "7: 2.1 [3,1,1,0,2] 11ac0202010300030001020200");
     for number in 4..=203 {
@@ -204,38 +205,44 @@ fn a_member_of_five_casts_behind_200_more() {
     assert_eq!(answer(&mut member, "time"), "[203,1,2,0,2]");
 }
 
+/// Why a call was refused, or `None`.
+fn refused(answer: Result<Output<'_>, Refusal>) -> Option<Refusal> {
+    answer.err()
+}
+
 #[test]
 fn a_payload_has_at_most_1024_bytes() {
     let mut sender = open(7, 3, 1, 0, 1);
-    sender.cast(b"x").unwrap();
-    assert_eq!(sender.cast(&[b'x'; LONGEST_PAYLOAD + 1]), Err(Refusal::PayloadTooLong));
-    assert_eq!(sender.cast(b"x"), Err(Refusal::WindowFull));
+    assert_eq!(refused(sender.cast(b"x")), None);
+    assert_eq!(refused(sender.cast(&[b'x'; LONGEST_PAYLOAD + 1])), Some(Refusal::PayloadTooLong));
+    assert_eq!(refused(sender.cast(b"x")), Some(Refusal::WindowFull));
     let (mut sender, mut receiver) = (open(7, 3, 4, 0, 100), open(7, 3, 4, 1, 100));
-    sender.cast(&[b'x'; LONGEST_PAYLOAD]).unwrap();
+    let sent = the_frame(&mut sender.cast(&[b'x'; LONGEST_PAYLOAD]).unwrap());
     let frame = [&[17, 7, 0, 1, 0, 128, 8][..], &[b'x'; LONGEST_PAYLOAD]].concat();
-    assert_eq!(sender.frames().next().unwrap().bytes, frame);
-    receiver.receive(&frame).unwrap();
-    assert_eq!(receiver.new_events().next().unwrap().payload, [b'x'; LONGEST_PAYLOAD]);
+    assert_eq!(sent, frame);
+    let mut received = receiver.receive(&frame).unwrap();
+    assert_eq!(received.events().next().unwrap().payload, [b'x'; LONGEST_PAYLOAD]);
     let longer = [&[17, 7, 0, 1, 0, 129, 8][..], &[b'x'; LONGEST_PAYLOAD + 1]].concat();
-    assert_eq!(receiver.receive(&longer), Err(Refusal::Malformed));
+    assert_eq!(refused(receiver.receive(&longer)), Some(Refusal::Malformed));
 }
 
 #[test]
 fn a_burst_has_1_to_32_payloads_of_1024_bytes_together() {
     let (bytes, most) = ([b'x'; 2 * LONGEST_PAYLOAD], LONGEST_PAYLOAD / MOST_MESSAGES);
     let mut sender = open(7, 3, 256, 0, 100);
-    assert_eq!(sender.cast_burst(&[]), Err(Refusal::EmptyBurst));
-    assert_eq!(sender.cast_burst(&[&bytes[..1]; MOST_MESSAGES + 1]), Err(Refusal::BurstTooLong));
-    assert_eq!(sender.cast_burst(&[&bytes[..]; 100]), Err(Refusal::BurstTooLong));
+    assert_eq!(refused(sender.cast_burst(&[])), Some(Refusal::EmptyBurst));
+    assert_eq!(refused(sender.cast_burst(&[&bytes[..1]; MOST_MESSAGES + 1])), Some(Refusal::BurstTooLong));
+    assert_eq!(refused(sender.cast_burst(&[&bytes[..]; 100])), Some(Refusal::BurstTooLong));
     let mut payloads = [&bytes[..most]; MOST_MESSAGES];
     payloads[5] = &bytes[..most + 1];
-    assert_eq!(sender.cast_burst(&payloads), Err(Refusal::PayloadTooLong));
+    assert_eq!(refused(sender.cast_burst(&payloads)), Some(Refusal::PayloadTooLong));
     payloads[31] = &bytes[..most - 1];
-    assert_eq!((sender.counts().events, sender.cast_burst(&payloads)), (0, Ok(())));
+    assert_eq!(sender.counts().events, 0);
+    let frame = the_frame(&mut sender.cast_burst(&payloads).unwrap());
     let mut receiver = open(7, 3, 256, 1, 0);
-    let received = receiver.receive(sender.frames().next().unwrap().bytes).unwrap();
-    assert_eq!((received.is_entered, received.delivered), (true, MOST_MESSAGES));
-    assert!(receiver.new_events().map(|event| event.payload).eq(payloads));
+    let mut received = receiver.receive(&frame).unwrap();
+    assert_eq!((received.is_entered(), received.events().len()), (true, MOST_MESSAGES));
+    assert!(received.events().map(|event| event.payload).eq(payloads));
 }
 
 /// More than fit at once into what the wrapper begins with.
@@ -243,11 +250,10 @@ fn a_burst_has_1_to_32_payloads_of_1024_bytes_together() {
 fn at_most_64_frames_are_sent_again_at_once() {
     let mut member = open(7, 3, 100, 0, 100);
     for number in 1..=66 {
-        member.cast(&[number; LONGEST_PAYLOAD]).unwrap();
+        assert_eq!(refused(member.cast(&[number; LONGEST_PAYLOAD])), None);
     }
-    member.receive(b"\x13\x07\x02\x00\x01\x01\x40").unwrap();
-    assert_eq!(member.counts().frames, 64);
-    let frames = member.frames();
+    let mut answer = member.receive(b"\x13\x07\x02\x00\x01\x01\x40").unwrap();
+    let frames = answer.frames();
     assert_eq!(frames.len(), 64);
     for (number, frame) in (2..).zip(frames) {
         let bytes = [&[17, 7, 0, number, 0, 128, 8][..], &[number; LONGEST_PAYLOAD]].concat();
@@ -257,7 +263,7 @@ fn at_most_64_frames_are_sent_again_at_once() {
 
 const GREATEST: [u8; 5] = [0xff, 0xff, 0xff, 0xff, 0x0f];
 
-/// A frame of this kind of member 0 of group 4,294,967,295, with these bytes behind 63 changes, which are the longest.
+/// A frame of this kind of member 0 of group 4,294,967,295, with these bytes after 63 changes, which are the longest.
 fn with_longest_changes(kind: u8, number: &[u8], carried: &[u8]) -> Vec<u8> {
     let change = |gap| [&[gap][..], &GREATEST].concat();
     let changes: Vec<Vec<u8>> = (0..63).map(|place| change(u8::from(place == 0))).collect();
@@ -279,9 +285,9 @@ fn longest_burst(number: &[u8]) -> Vec<u8> {
 fn the_longest_cast_has_1417_bytes() {
     let mut member = open(u32::MAX, 64, 1, 1, 100);
     let longest = longest_cast(&GREATEST);
-    assert_eq!((longest.len(), member.receive(&longest)), (1417, Err(Refusal::TooFar)));
+    assert_eq!((longest.len(), refused(member.receive(&longest))), (1417, Some(Refusal::TooFar)));
     let first = longest_cast(&[1]);
-    assert_eq!(member.receive(&first).map(|received| received.is_entered), Ok(true));
+    assert_eq!(member.receive(&first).map(|output| output.is_entered()), Ok(true));
     assert_eq!(member.entry(0), Some(Entry::Arrive { frame: &first, delivered: &[] }));
 }
 
@@ -290,11 +296,11 @@ fn the_longest_cast_has_1417_bytes() {
 fn the_longest_frame_is_a_burst() {
     let mut member = open(u32::MAX, 64, 32, 1, 100);
     let longest = longest_burst(&[0xe0, 0xff, 0xff, 0xff, 0x0f]);
-    assert_eq!((longest.len(), member.receive(&longest)), (LONGEST_FRAME, Err(Refusal::TooFar)));
+    assert_eq!((longest.len(), refused(member.receive(&longest))), (LONGEST_FRAME, Some(Refusal::TooFar)));
     let beyond = longest_burst(&[0xe1, 0xff, 0xff, 0xff, 0x0f]);
-    assert_eq!(member.receive(&beyond), Err(Refusal::Malformed));
+    assert_eq!(refused(member.receive(&beyond)), Some(Refusal::Malformed));
     let first = longest_burst(&[1]);
-    assert_eq!(member.receive(&first).map(|received| received.is_entered), Ok(true));
+    assert_eq!(member.receive(&first).map(|output| output.is_entered()), Ok(true));
     assert_eq!(member.entry(0), Some(Entry::Arrive { frame: &first, delivered: &[] }));
 }
 
@@ -303,7 +309,7 @@ fn the_longest_frame_is_a_burst() {
 fn events_are_the_same_in_pieces_of_any_length() {
     let mut member = open(7, 2, 256, 0, 1_000);
     for number in 0..200u8 {
-        member.cast(&vec![number; usize::from(number) * 5]).unwrap();
+        assert_eq!(refused(member.cast(&vec![number; usize::from(number) * 5])), None);
     }
     let own = |member: &mut Member, first: usize, last: usize| {
         let events: Vec<_> = member.events(first..last).map(|event| (event.name.number, event.payload.len())).collect();
@@ -318,13 +324,13 @@ fn events_are_the_same_in_pieces_of_any_length() {
     assert_eq!(member.events(7..=7).next().unwrap().name, Name { sender: 0, number: 8 });
     assert_eq!(member.events(..).len(), 200);
     assert_eq!(member.events(5..5).len(), 0);
-    assert_eq!((member.new_events().len(), member.new_events().len()), (200, 0));
 }
 
 #[test]
 fn each_refusal_of_opening_comes_before_the_next() {
-    let fault =
-        |size, window, me, history_max| Member::open(Settings { group: 7, size, window, me, history_max }).err();
+    let fault = |size, window, me, history_max| {
+        Member::open_with_history(Settings { group: 7, size, window, me }, history_max).err()
+    };
     let rows = [
         (fault(1, 4, 9, 0), Some(Refusal::BadGroup)),
         (fault(65, 4, 9, 0), Some(Refusal::BadGroup)),
@@ -341,41 +347,39 @@ fn each_refusal_of_opening_comes_before_the_next() {
     }
 }
 
+fn names(mut output: Output<'_>) -> Vec<Name> {
+    output.events().map(|event| event.name).collect()
+}
+
 /// Without a history there is what the last call that was done added, until the next.
 #[test]
 fn without_a_history_the_last_call_is_shown() {
     let own = |number| Name { sender: 2, number };
-    let names = |member: &mut Member| member.new_events().map(|event| event.name).collect::<Vec<_>>();
     let mut member = open(7, 3, 4, 2, 0);
-    member.cast_burst(&[b"p", b"q"]).unwrap();
-    assert_eq!(names(&mut member), [own(1), own(2)]);
-    assert_eq!(member.counts(), Counts { frames: 1, events: 2, entries: 1 });
+    assert_eq!(names(member.cast_burst(&[b"p", b"q"]).unwrap()), [own(1), own(2)]);
+    assert_eq!(member.counts(), Counts { events: 2, entries: 1 });
     assert!(matches!(member.entry(0), Some(Entry::Cast { frame }) if frame.ends_with(b"\x01p\x01q")));
     member = open(7, 3, 4, 2, 0);
-    member.cast(b"a").unwrap();
-    member.cast(b"b").unwrap();
-    assert_eq!(names(&mut member), [own(2)], "2.1 was not asked for in time");
-    assert_eq!(names(&mut member), []);
+    assert_eq!(names(member.cast(b"a").unwrap()), [own(1)]);
+    assert_eq!(names(member.cast(b"b").unwrap()), [own(2)]);
     assert_eq!(member.events(..).map(|event| event.payload.to_vec()).collect::<Vec<_>>(), [b"b"]);
     assert!(matches!(member.entry(0), Some(Entry::Cast { frame }) if frame.ends_with(b"b")));
     assert_eq!(member.entry(1), None);
-    assert_eq!(member.counts(), Counts { frames: 1, events: 1, entries: 1 });
+    assert_eq!(member.counts(), Counts { events: 1, entries: 1 });
     // 0.2 waits for 0.1
     let (second, first) = (bytes_of("110700020001"), bytes_of("110700010001"));
     let (second, first) = ([&second[..], b"d"].concat(), [&first[..], b"c"].concat());
-    member.receive(&second).unwrap();
-    assert_eq!((names(&mut member).len(), member.counts().events), (0, 0));
-    assert_eq!(member.receive(&first).unwrap().delivered, 2);
+    assert_eq!((names(member.receive(&second).unwrap()), member.counts().events), (vec![], 0));
     let both = [1, 2].map(|number| Name { sender: 0, number });
-    assert_eq!(names(&mut member), both);
+    assert_eq!(names(member.receive(&first).unwrap()), both);
     assert_eq!(member.entry(0), Some(Entry::Arrive { frame: &first, delivered: &both }));
-    assert_eq!(member.receive(b"?"), Err(Refusal::Malformed));
+    assert_eq!(refused(member.receive(b"?")), Some(Refusal::Malformed));
     assert_eq!(member.events(..).len(), 2, "a refused call changes nothing");
-    member.tick().unwrap();
+    assert_eq!(names(member.tick().unwrap()), []);
     assert!(matches!(member.entry(0), Some(Entry::Tick { .. })));
-    member.tick().unwrap();
+    assert_eq!(names(member.tick().unwrap()), []);
     assert_eq!(member.entry(0), None, "the status is not new");
-    assert_eq!(member.new_events().len(), 0);
+    assert_eq!(member.events(..).len(), 0);
 }
 
 /// The rows of the protocol's page that no frame has.
@@ -391,12 +395,25 @@ fn bytes_that_are_no_frame_are_malformed() {
         let fault = cells[1].strip_prefix("`refused ").map(|rest| rest.trim_end_matches(['`', ' ', '|']));
         if fault.is_some_and(|fault| faults.split(' ').any(|word| word == fault)) {
             let bytes = bytes_of(&cells[0].replace(['|', '`', ' '], ""));
-            assert_eq!(member.receive(&bytes), Err(Refusal::Malformed), "{line}");
+            assert_eq!(refused(member.receive(&bytes)), Some(Refusal::Malformed), "{line}");
             rows += 1;
         }
     }
-    assert_eq!(member.receive(&[]), Err(Refusal::Malformed));
+    assert_eq!(refused(member.receive(&[])), Some(Refusal::Malformed));
     assert!(rows > 30, "{rows} rows");
+}
+
+#[test]
+fn a_frame_says_whom_it_is_of() {
+    let whose = |bytes: &[u8]| sender(bytes).map(|Sender { group, member }| (group, member));
+    let mut member = open(300, 3, 4, 2, 0);
+    assert_eq!(whose(&the_frame(&mut member.cast(b"a").unwrap())), Ok((300, 2)));
+    assert_eq!(whose(&the_frame(&mut member.cast_burst(&[b"b", b"c"]).unwrap())), Ok((300, 2)));
+    assert_eq!(whose(member.tick().unwrap().frames().next().unwrap().bytes), Ok((300, 2)));
+    assert_eq!(whose(b"\x13\x07\x02\x00\x01\x01\x40"), Ok((7, 2)), "a request of member 2");
+    for bytes in [&b""[..], b"?", b"\x13\x07\x02\x00\x01\x01\x40\x00"] {
+        assert_eq!(whose(bytes), Err(Refusal::Malformed));
+    }
 }
 
 #[test]
@@ -410,7 +427,7 @@ fn a_refusal_is_an_error_with_its_code() {
 #[test]
 fn a_member_goes_to_another_thread() {
     let mut member = open(7, 2, 4, 0, 100);
-    member.cast(b"x").unwrap();
+    assert_eq!(refused(member.cast(b"x")), None);
     let (member, time) = std::thread::spawn(move || (member.stable(), member.time())).join().unwrap();
     assert_eq!((member, time), (0, vec![1, 0]));
 }

@@ -2,7 +2,7 @@
 
 mod network;
 
-use jolunza::{Counts, Member, Name, Refusal, Settings};
+use jolunza::{Member, Name, Output, Refusal, Settings};
 use network::{Dice, Network};
 use std::collections::{HashMap, HashSet};
 use std::hash::{DefaultHasher, Hash, Hasher};
@@ -17,6 +17,19 @@ struct Seen {
     name: Name,
 }
 
+fn opened(me: u32, history_max: usize) -> Member {
+    Member::open_with_history(Settings { group: 7, size: SIZE, window: 16, me }, history_max).unwrap()
+}
+
+/// The bytes of the frames that a call answers.
+fn sent(output: Result<Output<'_>, Refusal>) -> Vec<Vec<u8>> {
+    output.unwrap().frames().map(|frame| frame.bytes.to_vec()).collect()
+}
+
+fn payloads(mut output: Output<'_>) -> Vec<Vec<u8>> {
+    output.events().map(|event| event.payload.to_vec()).collect()
+}
+
 struct Group {
     members: Vec<Member>,
     logs: Vec<Vec<Seen>>,
@@ -26,62 +39,56 @@ struct Group {
 
 impl Group {
     fn new(seed: u64, history_max: usize) -> Group {
-        let settings = |me| Settings { group: 7, size: SIZE, window: 16, me, history_max };
         Group {
-            members: (0..SIZE).map(|me| Member::open(settings(me)).unwrap()).collect(),
+            members: (0..SIZE).map(|me| opened(me, history_max)).collect(),
             logs: vec![Vec::new(); SIZE as usize],
             network: Network::new(SIZE, seed),
             left: MESSAGES,
         }
     }
 
-    /// Sends and notes what the last call of a member left.
-    fn note(&mut self, me: u32) {
-        let (member, log) = (&mut self.members[me as usize], &mut self.logs[me as usize]);
-        member.frames().for_each(|frame| self.network.send(me, frame));
-        for event in member.new_events() {
+    /// Makes a call of a member, sends its frames, and notes its events; without frames and events where it is refused.
+    fn call(&mut self, me: u32, call: impl FnOnce(&mut Member) -> Result<Output<'_>, Refusal>) -> Result<(), Refusal> {
+        let log = &mut self.logs[me as usize];
+        let mut output = call(&mut self.members[me as usize])?;
+        output.frames().for_each(|frame| self.network.send(me, frame));
+        for event in output.events() {
             let text = format!("{} of {}", event.name.number, event.name.sender);
             assert_eq!(event.payload, text.as_bytes());
             log.push(Seen { is_own: event.is_own, name: event.name });
         }
+        Ok(())
     }
 
     /// Casts one message or, each third time, two at once.
     fn cast(&mut self, me: u32) {
-        let member = &mut self.members[me as usize];
-        let number = member.time()[me as usize] + 1;
+        let number = self.members[me as usize].time()[me as usize] + 1;
         let texts = [number, number + 1].map(|number| format!("{number} of {me}"));
         let count = if number.is_multiple_of(3) { self.left.min(2) } else { 1 };
-        let done = match &texts {
+        let done = self.call(me, |member| match &texts {
             [first, second] if count == 2 => member.cast_burst(&[first.as_bytes(), second.as_bytes()]),
             [first, _] => member.cast(first.as_bytes()),
-        };
+        });
         match done {
-            Ok(()) => {
-                self.left -= count;
-                self.note(me);
-            }
+            Ok(()) => self.left -= count,
             Err(refusal) => assert_eq!(refusal, Refusal::WindowFull),
         }
     }
 
     fn tick(&mut self, me: u32) {
-        self.members[me as usize].tick().unwrap();
-        self.note(me);
+        self.call(me, Member::tick).unwrap();
     }
 
     /// Asks a third member for what is missing of another one.
     fn help(&mut self, me: u32, other: u32) {
-        self.members[me as usize].help(other).unwrap();
-        self.note(me);
+        self.call(me, |member| member.help(other)).unwrap();
     }
 
     /// Brings one frame, whichever.
     fn bring(&mut self) {
         if let Some((to, bytes)) = self.network.take() {
-            match self.members[to as usize].receive(&bytes) {
-                Ok(_) => self.note(to),
-                Err(refusal) => assert_eq!(refusal, Refusal::TooFar),
+            if let Err(refusal) = self.call(to, |member| member.receive(&bytes)) {
+                assert_eq!(refusal, Refusal::TooFar);
             }
         }
     }
@@ -102,7 +109,7 @@ impl Group {
     }
 }
 
-/// Whether each list has every message once, and behind all messages that happened before it.
+/// Whether each list has every message once, and after all messages that happened before it.
 ///
 /// What happened before what is found by the casts and deliveries alone: an event happened before what stands below it
 /// in its list, and a cast before each delivery of it. The vector times are not looked at.
@@ -257,32 +264,84 @@ fn the_check_sees_what_is_not_causal() {
     assert!(!is_causal(&circle), "each before the other");
 }
 
+/// Two calls one after another: each answers what it did itself, with and without a history.
+#[test]
+fn each_call_answers_its_own_frames_and_events() {
+    for history_max in [100, 0] {
+        let (mut member, mut other) = (opened(0, history_max), opened(1, history_max));
+        for text in ["a", "bc", "def"] {
+            let mut output = member.cast(text.as_bytes()).unwrap();
+            assert_eq!((output.is_repeat(), output.is_entered(), output.frames().len()), (false, true, 1));
+            let [frame] = &output.frames().map(|frame| frame.bytes.to_vec()).collect::<Vec<_>>()[..] else { panic!() };
+            for _ in 0..2 {
+                assert_eq!(output.events().map(|event| event.payload).collect::<Vec<_>>(), [text.as_bytes()]);
+            }
+            let mut taken = other.receive(frame).unwrap();
+            assert_eq!((taken.is_repeat(), taken.is_entered(), taken.frames().len()), (false, true, 0));
+            assert_eq!(payloads(taken), [text.as_bytes()]);
+            let mut again = other.receive(frame).unwrap();
+            assert_eq!((again.is_repeat(), again.is_entered()), (true, false));
+            assert_eq!((again.frames().len(), again.events().len()), (0, 0));
+        }
+        for is_news in [true, false] {
+            let mut tick = other.tick().unwrap();
+            assert_eq!((tick.is_repeat(), tick.is_entered(), tick.frames().len()), (false, is_news, 1));
+            assert_eq!(tick.events().len(), 0);
+        }
+        let mut help = other.help(0).unwrap();
+        assert_eq!((help.is_entered(), help.frames().len(), help.events().len()), (false, 0, 0));
+        assert_eq!(other.receive(b"?").unwrap_err(), Refusal::Malformed);
+        assert_eq!(payloads(other.cast(b"g").unwrap()), [b"g"]);
+    }
+}
+
+#[test]
+fn a_number_that_no_member_has_is_refused_by_each_reading() {
+    let mut member = opened(1, 0);
+    let answers = |member: &Member, number| {
+        [
+            member.stable_of(number).map(drop),
+            member.acknowledged_by(number).map(drop),
+            member.keeps_window_full(number).map(drop),
+            member.waits_for(number).map(drop),
+            member.missing(number).map(drop),
+        ]
+    };
+    for number in [SIZE, 64, u32::MAX] {
+        assert_eq!(answers(&member, number), [Err(Refusal::BadMember); 5], "{number}");
+        assert_eq!(member.help(number).map(drop), Err(Refusal::BadMember));
+    }
+    assert_eq!(answers(&member, 0), [Ok(()); 5]);
+    assert_eq!(answers(&member, 1)[..4], [Ok(()); 4]);
+    assert_eq!(answers(&member, 1)[4], Err(Refusal::BadMember), "it misses nothing of its own");
+}
+
 /// Three frames are loaded at once, taken in another order, and one once more.
 #[test]
 fn parts_of_loaded_bytes_are_received() {
     for history_max in [100, 0] {
-        let open = |me| Member::open(Settings { group: 7, size: SIZE, window: 16, me, history_max }).unwrap();
-        let (mut caster, mut taker) = (open(0), open(1));
+        let (mut caster, mut taker) = (opened(0, history_max), opened(1, history_max));
         let (mut inbox, mut ends) = (Vec::new(), vec![0]);
         for text in ["a", "bc", "def"] {
-            caster.cast(text.as_bytes()).unwrap();
-            caster.frames().for_each(|frame| inbox.extend_from_slice(frame.bytes));
+            inbox.extend(sent(caster.cast(text.as_bytes())).concat());
             ends.push(inbox.len());
         }
-        assert_eq!(taker.receive_loaded(0..ends[1]), Err(Refusal::NoneThere));
+        let mut take = |part| taker.receive_loaded(part).map(payloads);
+        assert_eq!(take(0..ends[1]), Err(Refusal::NoneThere));
         taker.load(&inbox).unwrap();
         inbox.fill(0);
-        assert_eq!(taker.receive_loaded(ends[1]..ends[2]).unwrap().delivered, 0);
-        taker.cast(b"hi").unwrap();
-        assert_eq!(taker.receive_loaded(ends[2]..ends[3]).unwrap().delivered, 0);
-        assert_eq!(taker.receive_loaded(ends[2]..ends[3] + 1), Err(Refusal::NoneThere));
-        assert_eq!(taker.receive_loaded(usize::MAX..usize::MAX), Err(Refusal::NoneThere));
-        assert_eq!(taker.receive_loaded(0..ends[1]).unwrap().delivered, 3);
+        let mut take = |part| taker.receive_loaded(part).map(payloads);
+        assert_eq!(take(ends[1]..ends[2]), Ok(vec![]));
+        assert_eq!(payloads(taker.cast(b"hi").unwrap()), [b"hi"]);
+        let mut take = |part| taker.receive_loaded(part).map(payloads);
+        assert_eq!(take(ends[2]..ends[3]), Ok(vec![]));
+        assert_eq!(take(ends[2]..ends[3] + 1), Err(Refusal::NoneThere));
+        assert_eq!(take(usize::MAX..usize::MAX), Err(Refusal::NoneThere));
+        assert_eq!(take(0..ends[1]), Ok(["a", "bc", "def"].map(|text| text.as_bytes().to_vec()).into()));
         taker.load(&[]).unwrap();
         let events = taker.counts().events;
-        let payloads: Vec<_> = taker.events(events - 3..).map(|event| event.payload.to_vec()).collect();
-        assert_eq!(payloads, ["a", "bc", "def"].map(|text| text.as_bytes().to_vec()));
-        assert_eq!(taker.receive_loaded(0..ends[1]), Err(Refusal::NoneThere));
+        assert_eq!(taker.events(events - 3..).map(|event| event.payload.len()).collect::<Vec<_>>(), [1, 2, 3]);
+        assert_eq!(taker.receive_loaded(0..ends[1]).map(payloads), Err(Refusal::NoneThere));
     }
 }
 
@@ -291,33 +350,26 @@ fn parts_of_loaded_bytes_are_received() {
 #[test]
 fn what_a_silent_member_has_cast_comes_from_a_third() {
     for history_max in [100, 0] {
-        let open = |me| Member::open(Settings { group: 7, size: SIZE, window: 16, me, history_max }).unwrap();
-        let (mut silent, mut helper, mut taker) = (open(0), open(1), open(2));
+        let (mut silent, mut helper, mut taker) =
+            (opened(0, history_max), opened(1, history_max), opened(2, history_max));
         for text in ["a", "bc", "def"] {
-            silent.cast(text.as_bytes()).unwrap();
-            helper.receive(silent.frames().next().unwrap().bytes).unwrap();
+            assert_eq!(payloads(helper.receive(&sent(silent.cast(text.as_bytes()))[0]).unwrap()), [text.as_bytes()]);
         }
-        taker.help(0).unwrap();
-        assert_eq!(taker.frames().len(), 0, "it has not heard of them");
-        helper.tick().unwrap();
-        taker.receive(helper.frames().next().unwrap().bytes).unwrap();
+        assert!(sent(taker.help(0)).is_empty(), "it has not heard of them");
+        assert!(sent(taker.receive(&sent(helper.tick())[0])).is_empty());
         let before = taker.counts();
-        taker.help(0).unwrap();
-        assert_eq!(taker.counts(), Counts { frames: 1, ..before });
-        assert_eq!(taker.help(2), Err(Refusal::BadMember));
-        assert_eq!(taker.help(SIZE), Err(Refusal::BadMember));
-        let help = taker.frames().next().unwrap();
-        assert_eq!(help.to, Some(1));
-        helper.receive(help.bytes).unwrap();
-        assert!(helper.frames().all(|frame| frame.to == Some(2)));
-        let mut payloads = Vec::new();
-        for frame in helper.frames() {
-            taker.receive(frame.bytes).unwrap();
-            payloads.extend(taker.new_events().map(|event| event.payload.to_vec()));
+        let help = sent(taker.help(0));
+        assert_eq!((help.len(), taker.counts()), (1, before));
+        assert_eq!(taker.help(0).unwrap().frames().map(|frame| frame.to).collect::<Vec<_>>(), [Some(1)]);
+        for number in [2, SIZE] {
+            assert_eq!(taker.help(number).map(drop), Err(Refusal::BadMember));
         }
+        let mut answer = helper.receive(&help[0]).unwrap();
+        assert!(answer.frames().all(|frame| frame.to == Some(2)));
+        let payloads: Vec<_> =
+            answer.frames().flat_map(|frame| payloads(taker.receive(frame.bytes).unwrap())).collect();
         assert_eq!(payloads, ["a", "bc", "def"].map(|text| text.as_bytes().to_vec()));
-        taker.help(0).unwrap();
-        assert_eq!(taker.frames().len(), 0, "nothing is missing");
+        assert!(sent(taker.help(0)).is_empty(), "nothing is missing");
     }
 }
 
@@ -325,37 +377,30 @@ fn what_a_silent_member_has_cast_comes_from_a_third() {
 #[test]
 fn parts_are_received_in_one_call() {
     for history_max in [100, 0] {
-        let open = |me| Member::open(Settings { group: 7, size: SIZE, window: 16, me, history_max }).unwrap();
-        let (mut caster, mut asker, mut taker) = (open(0), open(2), open(1));
-        taker.cast(b"hi").unwrap();
-        taker.tick().unwrap();
-        let status = taker.frames().next().unwrap().bytes.to_vec();
-        asker.receive(&status).unwrap();
-        asker.tick().unwrap();
-        let request = asker.frames().find(|frame| frame.to == Some(1)).unwrap().bytes.to_vec();
-        let mut frames = Vec::new();
-        for text in ["a", "bc", "def"] {
-            caster.cast(text.as_bytes()).unwrap();
-            frames.push(caster.frames().next().unwrap().bytes.to_vec());
-        }
+        let (mut caster, mut asker, mut taker) =
+            (opened(0, history_max), opened(2, history_max), opened(1, history_max));
+        assert_eq!(sent(taker.cast(b"hi")).len(), 1);
+        assert!(sent(asker.receive(&sent(taker.tick())[0])).is_empty());
+        let mut ticked = asker.tick().unwrap();
+        let request = ticked.frames().find(|frame| frame.to == Some(1)).unwrap().bytes.to_vec();
+        let mut frames: Vec<_> =
+            ["a", "bc", "def"].iter().flat_map(|text| sent(caster.cast(text.as_bytes()))).collect();
         frames.insert(2, request);
         frames.push(vec![0]);
         let lengths: Vec<_> = frames.iter().map(Vec::len).collect();
-        assert_eq!(taker.receive_parts(0, &lengths), Err(Refusal::NoneThere));
+        assert_eq!(taker.receive_parts(0, &lengths).map(drop), Err(Refusal::NoneThere));
         taker.load(&frames.concat()).unwrap();
-        taker.new_events().for_each(drop);
-        assert_eq!(taker.receive_parts(0, &lengths), Ok(3));
-        assert_eq!(taker.frames().map(|frame| frame.to).collect::<Vec<_>>(), [Some(2)]);
-        assert_eq!(
-            taker.new_events().map(|event| event.payload.to_vec()).collect::<Vec<_>>(),
-            [b"a".to_vec(), b"bc".to_vec()]
-        );
+        let (taken, mut output) = taker.receive_parts(0, &lengths).unwrap();
+        assert_eq!((taken, output.is_repeat(), output.is_entered()), (3, false, true));
+        assert_eq!(output.frames().map(|frame| frame.to).collect::<Vec<_>>(), [Some(2)]);
+        assert_eq!(payloads(output), [b"a".to_vec(), b"bc".to_vec()]);
         let first = lengths[..3].iter().sum::<usize>();
-        assert_eq!(taker.receive_parts(first, &lengths[3..]), Ok(1));
-        assert_eq!(taker.frames().len(), 0);
-        assert_eq!(taker.new_events().map(|event| event.payload.to_vec()).collect::<Vec<_>>(), [b"def".to_vec()]);
-        assert_eq!(taker.receive_parts(first + lengths[3], &lengths[4..]), Err(Refusal::Malformed));
-        assert_eq!(taker.receive_parts(0, &[]), Err(Refusal::NoneThere));
-        assert_eq!(taker.new_events().len(), 0);
+        let (taken, mut output) = taker.receive_parts(first, &lengths[3..]).unwrap();
+        assert_eq!((taken, output.frames().len()), (1, 0));
+        assert_eq!(payloads(output), [b"def"]);
+        let (taken, mut output) = taker.receive_parts(0, &lengths[..2]).unwrap();
+        assert_eq!((taken, output.is_entered(), output.events().len()), (2, false, 0), "they are repeats");
+        assert_eq!(taker.receive_parts(first + lengths[3], &lengths[4..]).map(drop), Err(Refusal::Malformed));
+        assert_eq!(taker.receive_parts(0, &[]).map(drop), Err(Refusal::NoneThere));
     }
 }

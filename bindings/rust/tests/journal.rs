@@ -5,9 +5,10 @@ mod network;
 #[allow(dead_code)]
 mod text;
 
-use jolunza::{Entry, Journal, JournalFault, Member, Refusal, ResumeFault, Resumed, Settings};
+use jolunza::{Events, Journal, JournalFault, Member, Output, Refusal, ResumeFault, Resumed, Settings};
 use network::{Dice, Network};
 use std::env;
+use std::error::Error;
 use std::fs::{self, OpenOptions};
 use std::io::Write;
 use std::path::PathBuf;
@@ -24,19 +25,60 @@ const HEAD: &str = "cbcast 1 group 7 size 3 window 8 member 1\n";
 /// The first tick says that nothing is delivered.
 const TICK: &str = "tick 12070100\n";
 
-fn settings(me: u32, history_max: usize) -> Settings {
-    Settings { group: 7, size: SIZE, window: 8, me, history_max }
+fn settings(me: u32) -> Settings {
+    Settings { group: 7, size: SIZE, window: 8, me }
 }
 
 fn open(me: u32, history_max: usize) -> Member {
-    Member::open(settings(me, history_max)).unwrap()
+    Member::open_with_history(settings(me), history_max).unwrap()
 }
 
 fn resumed(journal: &str) -> Result<Resumed, ResumeFault> {
-    Member::resume(journal.as_bytes(), HISTORY_MAX)
+    Member::resume_with_history(journal.as_bytes(), HISTORY_MAX)
 }
 
-type Call<'a> = &'a dyn Fn(&mut Member) -> Result<(), Refusal>;
+/// A call of a member, with a journal or without.
+enum Call<'a> {
+    Tick,
+    Cast(&'a [u8]),
+    Burst(&'a [&'a [u8]]),
+    Help(u32),
+    Receive(&'a [u8]),
+}
+
+impl Call<'_> {
+    fn of<'m>(&self, member: &'m mut Member) -> Result<Output<'m>, Refusal> {
+        match self {
+            Call::Tick => member.tick(),
+            Call::Cast(payload) => member.cast(payload),
+            Call::Burst(payloads) => member.cast_burst(payloads),
+            Call::Help(other) => member.help(*other),
+            Call::Receive(bytes) => member.receive(bytes),
+        }
+    }
+
+    fn written<'j>(&self, journal: &'j mut Journal) -> Result<Output<'j>, Refusal> {
+        let done = match self {
+            Call::Tick => journal.tick(),
+            Call::Cast(payload) => journal.cast(payload),
+            Call::Burst(payloads) => journal.cast_burst(payloads),
+            Call::Help(other) => journal.help(*other),
+            Call::Receive(bytes) => journal.receive(bytes),
+        };
+        done.unwrap()
+    }
+}
+
+/// To whom a frame is, and its bytes.
+type Sent = (Option<u32>, Vec<u8>);
+
+fn sent(mut output: Output<'_>) -> Vec<Sent> {
+    output.frames().map(|frame| (frame.to, frame.bytes.to_vec())).collect()
+}
+
+fn payloads(events: Events<'_>) -> Vec<Vec<u8>> {
+    events.map(|event| event.payload.to_vec()).collect()
+}
 
 /// The path of a file, which is removed at the end.
 struct Place(PathBuf);
@@ -46,8 +88,16 @@ impl Place {
         Place(env::temp_dir().join(format!("jolunza-journal-{}-{name}", process::id())))
     }
 
-    fn open(&self, settings: &Settings) -> Result<(Journal, Member), JournalFault> {
-        Journal::open(&self.0, settings)
+    fn open(&self) -> Journal {
+        self.open_with(HISTORY_MAX)
+    }
+
+    fn open_with(&self, history_max: usize) -> Journal {
+        Journal::open_with_history(&self.0, settings(KILLED), history_max).unwrap()
+    }
+
+    fn fault(&self, settings: Settings) -> JournalFault {
+        Journal::open_with_history(&self.0, settings, HISTORY_MAX).unwrap_err()
     }
 
     fn has(&self) -> String {
@@ -66,39 +116,27 @@ impl Drop for Place {
     }
 }
 
-/// All that can be read of a member, as text, and whom it would ask for help; without a history not what its last call added.
-fn reading(member: &mut Member) -> Vec<String> {
-    let mut lines = vec![format!("{:?} {}", member.time(), member.stable())];
+/// All that can be read of a member but its events, as text; without a history not what its last call added.
+fn reading(member: &Member, history_max: usize) -> Vec<String> {
+    let mut lines = vec![format!("{:?} {} {}", member.time(), member.stable(), member.waiting())];
     lines.extend((0..SIZE).map(|other| format!("{:?} {:?}", member.stable_of(other), member.missing(other))));
-    lines.push(member.waiting().to_string());
     lines.extend((0..SIZE).map(|other| format!("{:?} {:?}", member.acknowledged_by(other), member.waits_for(other))));
-    if member.settings().history_max == 0 {
-        return lines;
-    }
-    lines.extend(member.events(..).map(|event| format!("{event:?}")));
-    for index in 0..member.counts().entries {
-        lines.push(match member.entry(index).unwrap() {
-            Entry::Arrive { frame, delivered } => format!("arrive {frame:?} {delivered:?}"),
-            entry => format!("{entry:?}"),
-        });
+    if history_max > 0 {
+        lines.extend((0..member.counts().entries).map(|index| member.journal_line(index).unwrap()));
     }
     lines
 }
 
-/// To whom each frame of each of these calls goes, and its bytes.
-fn asks(member: &mut Member) -> Vec<(Option<u32>, Vec<u8>)> {
-    let mut frames = Vec::new();
-    for other in (0..SIZE).filter(|other| *other != KILLED) {
-        member.help(other).unwrap();
-        frames.extend(member.frames().map(|frame| (frame.to, frame.bytes.to_vec())));
-    }
-    frames
+fn events_text(events: Events<'_>) -> Vec<String> {
+    events.map(|event| format!("{event:?}")).collect()
 }
 
 struct Group {
     place: Place,
-    journal: Option<Journal>,
-    members: Vec<Member>,
+    history_max: usize,
+    killed: Option<Journal>,
+    /// Those with an even number.
+    others: [Member; 2],
     network: Network,
     dice: Dice,
 }
@@ -106,61 +144,68 @@ struct Group {
 impl Group {
     fn new(name: &str, history_max: usize) -> Group {
         let place = Place::new(name);
-        let (journal, killed) = place.open(&settings(KILLED, history_max)).unwrap();
-        let members = vec![open(0, history_max), killed, open(2, HISTORY_MAX)];
-        Group { place, journal: Some(journal), members, network: Network::new(SIZE, 3), dice: Dice(3) }
+        let killed = Some(place.open_with(history_max));
+        let others = [open(0, history_max), open(2, HISTORY_MAX)];
+        Group { place, history_max, killed, others, network: Network::new(SIZE, 3), dice: Dice(3) }
     }
 
-    /// A call of a member, whose entry is written before its frames are sent.
-    fn call(&mut self, me: u32, call: impl Fn(&mut Member) -> Result<(), Refusal>) {
-        let member = &mut self.members[me as usize];
-        let done = call(member);
-        if me == KILLED {
-            self.journal.as_mut().unwrap().append(member).unwrap();
-        }
+    fn call(&mut self, me: u32, call: Call<'_>) {
+        let done = match me {
+            KILLED => call.written(self.killed.as_mut().unwrap()),
+            _ => call.of(&mut self.others[me as usize / 2]),
+        };
         match done {
-            Ok(()) => member.frames().for_each(|frame| self.network.send(me, frame)),
+            Ok(mut output) => output.frames().for_each(|frame| self.network.send(me, frame)),
             Err(refusal) => assert!(matches!(refusal, Refusal::WindowFull | Refusal::TooFar), "{refusal}"),
         }
     }
 
     fn bring(&mut self) {
         if let Some((to, bytes)) = self.network.take() {
-            self.call(to, |member| member.receive(&bytes).map(drop));
+            self.call(to, Call::Receive(&bytes));
         }
     }
 
     fn act(&mut self) {
         let (me, bytes) = (self.dice.below(SIZE.into()) as u32, self.dice.0.to_le_bytes());
         match self.dice.below(12) {
-            0 => self.call(me, Member::tick),
-            1 => self.call(me, |member| member.cast(&bytes)),
-            2 => self.call(me, |member| member.cast_burst(&[&bytes[..3], b"", &bytes[3..]])),
-            3 => self.call(me, |member| member.help((me + 1) % SIZE)),
+            0 => self.call(me, Call::Tick),
+            1 => self.call(me, Call::Cast(&bytes)),
+            2 => self.call(me, Call::Burst(&[&bytes[..3], b"", &bytes[3..]])),
+            3 => self.call(me, Call::Help((me + 1) % SIZE)),
             _ => self.bring(),
         }
     }
 
     fn quiet_round(&mut self) {
-        (0..SIZE).for_each(|me| self.call(me, Member::tick));
+        (0..SIZE).for_each(|me| self.call(me, Call::Tick));
         while !self.network.is_empty() {
             self.bring();
         }
     }
 
+    /// All that can be read of the killed member, and what it asks for.
+    fn killed_reading(&mut self) -> (Vec<String>, Vec<Sent>) {
+        let (journal, history_max) = (self.killed.as_mut().unwrap(), self.history_max);
+        let mut lines = reading(journal.member(), history_max);
+        if history_max > 0 {
+            lines.extend(events_text(journal.events(..)));
+        }
+        let asks = [0, 2].into_iter().flat_map(|other| sent(journal.help(other).unwrap().unwrap())).collect();
+        (lines, asks)
+    }
+
     /// The member's process ends in the midst of a line, and another one goes on.
     fn come_back(&mut self, part: &str) {
-        self.journal = None;
+        let before = self.killed_reading();
+        self.killed = None;
         let whole = self.place.has();
         self.place.tear(part);
-        let settings = self.members[KILLED as usize].settings();
-        let (journal, mut member) = self.place.open(&settings).unwrap();
+        self.killed = Some(self.place.open_with(self.history_max));
         assert_eq!(self.place.has(), whole, "the torn line is cut off");
-        let before = &mut self.members[KILLED as usize];
-        assert_eq!(reading(&mut member), reading(before));
-        assert_eq!(member.frames().len(), 0);
-        assert_eq!(asks(&mut member), asks(before));
-        (self.journal, self.members[KILLED as usize]) = (Some(journal), member);
+        let delivered = self.killed.as_mut().unwrap().events(..).len();
+        assert_eq!(delivered, self.killed.as_ref().unwrap().member().time().iter().sum::<u32>() as usize);
+        assert_eq!(self.killed_reading(), before);
     }
 }
 
@@ -186,9 +231,10 @@ fn comes_back(name: &str, history_max: usize) {
     }
     group.network.is_good = true;
     (0..5).for_each(|_| group.quiet_round());
-    let time = group.members[0].time();
+    let time = group.others[0].time();
     assert!(time.iter().all(|count| *count > 50), "{time:?}");
-    for (me, member) in group.members.iter().enumerate() {
+    let killed = group.killed.as_ref().unwrap().member();
+    for (me, member) in [&group.others[0], killed, &group.others[1]].into_iter().enumerate() {
         assert_eq!((member.time(), member.stable()), (time.clone(), time[me]));
     }
 }
@@ -196,41 +242,33 @@ fn comes_back(name: &str, history_max: usize) {
 #[test]
 fn two_crashes_in_a_row_lose_no_whole_line() {
     let place = Place::new("torn");
-    let settings = settings(KILLED, HISTORY_MAX);
-    let (mut journal, mut member) = place.open(&settings).unwrap();
-    member.tick().unwrap();
-    journal.append(&member).unwrap();
-    drop(journal);
+    assert_eq!(sent(place.open().tick().unwrap().unwrap()).len(), 1);
     place.tear("cast 11070");
-    let (_, member) = place.open(&settings).unwrap();
-    assert_eq!(member.counts().entries, 1);
+    assert_eq!(place.open().member().counts().entries, 1);
     place.tear("cas");
-    let (mut journal, mut member) = place.open(&settings).unwrap();
-    member.cast(b"a").unwrap();
-    journal.append(&member).unwrap();
-    drop(journal);
+    assert_eq!(sent(place.open().cast(b"a").unwrap().unwrap()).len(), 1);
     assert_eq!(place.has(), format!("{HEAD}{TICK}cast 11070101000161\n"));
-    let (_, mut member) = place.open(&settings).unwrap();
-    assert_eq!(member.new_events().map(|event| event.payload.to_vec()).collect::<Vec<_>>(), [b"a"]);
+    assert_eq!(payloads(place.open().events(..)), [b"a"]);
 }
 
-/// A member, the text of its journal, and what could be read of it behind the head line and behind each entry.
+/// A member, the text of its journal, and what could be read of it after the head line and after each entry.
 fn some_member() -> (Member, String, Vec<Vec<String>>) {
     let mut member = open(KILLED, HISTORY_MAX);
-    let (mut text, mut readings) = (member.journal_head().unwrap(), vec![reading(&mut member)]);
-    let calls: [Call<'_>; 7] = [
-        &Member::tick,
-        &|member| member.cast(b"noon"),
-        &|member| member.cast_burst(&[b"", b"one"]),
-        &|member| member.receive(b"\x11\x07\x00\x02\x00\x01b").map(drop),
-        &|member| member.receive(b"\x11\x07\x00\x01\x00\x01a").map(drop),
-        &|member| member.receive(b"\x12\x07\x02\x01\x01\x03").map(drop),
-        &Member::tick,
+    let all = |member: &mut Member| [reading(member, HISTORY_MAX), events_text(member.events(..))].concat();
+    let (mut text, mut readings) = (member.journal_head().unwrap(), vec![all(&mut member)]);
+    let calls = [
+        Call::Tick,
+        Call::Cast(b"noon"),
+        Call::Burst(&[b"", b"one"]),
+        Call::Receive(b"\x11\x07\x00\x02\x00\x01b"),
+        Call::Receive(b"\x11\x07\x00\x01\x00\x01a"),
+        Call::Receive(b"\x12\x07\x02\x01\x01\x03"),
+        Call::Tick,
     ];
     for (index, call) in calls.iter().enumerate() {
-        call(&mut member).unwrap();
+        assert!(call.of(&mut member).unwrap().is_entered());
         text += &member.journal_line(index).unwrap();
-        readings.push(reading(&mut member));
+        readings.push(all(&mut member));
     }
     (member, text, readings)
 }
@@ -261,10 +299,11 @@ fn every_cut_of_a_journal_is_a_beginning() {
         match resumed(part) {
             Err(fault) => assert_eq!((fault, lines), (ResumeFault::NoHead, 0), "{part}"),
             Ok(mut back) => {
-                assert_eq!((back.entries, back.read), (lines - 1, part.rfind('\n').unwrap() + 1), "{part}");
-                assert_eq!(back.member.settings(), settings(KILLED, HISTORY_MAX));
-                assert_eq!(reading(&mut back.member), readings[lines - 1], "{part}");
-                assert_eq!(back.member.new_events().len(), back.member.counts().events);
+                assert_eq!((back.entries(), back.read()), (lines - 1, part.rfind('\n').unwrap() + 1), "{part}");
+                assert_eq!(back.settings(), settings(KILLED));
+                let events = events_text(back.events(..));
+                let member = back.into_member();
+                assert_eq!([reading(&member, HISTORY_MAX), events].concat(), readings[lines - 1], "{part}");
             }
         }
     }
@@ -273,8 +312,8 @@ fn every_cut_of_a_journal_is_a_beginning() {
 #[test]
 fn the_journal_of_another_member_is_refused() {
     let place = Place::new("other");
-    let own = settings(KILLED, HISTORY_MAX);
-    drop(place.open(&own).unwrap());
+    let own = settings(KILLED);
+    drop(place.open());
     place.tear("ca");
     let others = [
         Settings { group: 8, ..own },
@@ -283,69 +322,27 @@ fn the_journal_of_another_member_is_refused() {
         Settings { me: 2, ..own },
     ];
     for other in others {
-        assert_eq!(place.open(&other).unwrap_err(), JournalFault::OtherJournal(own));
+        let fault = place.fault(other);
+        assert!(matches!(&fault, JournalFault::OtherJournal { settings, .. } if *settings == own), "{fault}");
+        let told = format!("{}: the journal is of member 1 of 3, group 7, window 8", place.0.display());
+        assert_eq!((fault.to_string(), fault.path()), (told, place.0.as_path()));
         assert_eq!(place.has(), format!("{HEAD}ca"));
     }
-    let fault = place.open(&others[0]).unwrap_err();
-    let told = format!("the journal is of member 1 of 3, group 7, window 8, history_max {HISTORY_MAX}");
-    assert_eq!(fault.to_string(), told);
 }
 
 /// A killed process has it no more: the lock is the open file's.
 #[test]
 fn nobody_else_has_the_journal() {
     let place = Place::new("lock");
-    let settings = settings(KILLED, HISTORY_MAX);
-    let (journal, _) = place.open(&settings).unwrap();
+    let journal = place.open();
     place.tear("ca");
-    let fault = place.open(&settings).unwrap_err();
-    assert_eq!((fault, fault.to_string()), (JournalFault::InUse, "another has the journal open".into()));
+    let fault = place.fault(settings(KILLED));
+    assert!(matches!(fault, JournalFault::InUse { .. }), "{fault}");
+    assert_eq!(fault.to_string(), format!("{}: another has the journal open", place.0.display()));
     assert_eq!(place.has(), format!("{HEAD}ca"));
     drop(journal);
-    place.open(&settings).unwrap();
+    drop(place.open());
     assert_eq!(place.has(), HEAD);
-}
-
-#[test]
-fn the_entries_of_another_member_are_refused() {
-    for history_max in [HISTORY_MAX, 0] {
-        let own = settings(KILLED, history_max);
-        let others = [
-            Settings { group: 8, ..own },
-            Settings { size: 4, ..own },
-            Settings { window: 9, ..own },
-            Settings { me: 2, ..own },
-            Settings { history_max: 5, ..own },
-        ];
-        for other in others {
-            let place = Place::new("not-own");
-            let (mut journal, member) = place.open(&own).unwrap();
-            let mut other = Member::open(other).unwrap();
-            other.tick().unwrap();
-            assert_eq!(journal.append(&other), Err(JournalFault::OtherJournal(own)));
-            assert_eq!(journal.append(&member), Err(JournalFault::OtherJournal(own)), "it stays");
-            assert_eq!(place.has(), HEAD);
-        }
-    }
-}
-
-#[test]
-fn a_member_that_began_anew_is_no_more_that_of_the_journal() {
-    for history_max in [HISTORY_MAX, 0] {
-        let place = Place::new("anew");
-        let (mut journal, mut member) = place.open(&settings(KILLED, history_max)).unwrap();
-        for payload in [b"a", b"b"] {
-            member.cast(payload).unwrap();
-            journal.append(&member).unwrap();
-        }
-        let written = place.has();
-        let mut anew = open(KILLED, history_max);
-        anew.cast(b"c").unwrap();
-        let fault = journal.append(&anew).unwrap_err();
-        assert_eq!(fault, JournalFault::FewerEntries);
-        assert_eq!(fault.to_string(), "the member has fewer entries than its journal: it began anew");
-        assert_eq!(place.has(), written);
-    }
 }
 
 #[test]
@@ -365,15 +362,17 @@ fn what_is_no_journal_is_named_and_left() {
         assert_eq!(resumed(&text).map(drop), fault, "{text}");
         let place = Place::new("no");
         fs::write(&place.0, &text).unwrap();
-        let refused = place.open(&settings(KILLED, HISTORY_MAX)).unwrap_err();
-        assert_eq!(refused, JournalFault::NotResumed(fault.unwrap_err()));
+        let (refused, expected) = (place.fault(settings(KILLED)), fault.unwrap_err());
+        assert!(matches!(&refused, JournalFault::NotResumed { fault, .. } if *fault == expected), "{refused}");
+        assert_eq!(refused.to_string(), format!("{}: {expected}", place.0.display()));
+        assert_eq!(refused.source().unwrap().to_string(), expected.to_string());
         assert_eq!(place.has(), text);
     }
 }
 
 #[test]
 fn each_fault_comes_before_the_next() {
-    let tell = |text: String, most| Member::resume(text.as_bytes(), most).map(drop).unwrap_err();
+    let tell = |text: String, most| Member::resume_with_history(text.as_bytes(), most).map(drop).unwrap_err();
     let (over, text) = (16_777_217, format!("{HEAD}{TICK}{TICK}"));
     assert_eq!(tell("a".into(), over), ResumeFault::NoHead);
     assert_eq!(tell(format!("{text}?\n"), over), ResumeFault::BadLine { line: 4 });
@@ -382,117 +381,135 @@ fn each_fault_comes_before_the_next() {
     assert_eq!(tell(text.clone(), 2), ResumeFault::NotLegal { line: 3 });
     assert_eq!(tell(text, 0), ResumeFault::NotLegal { line: 3 });
     let fault = ResumeFault::BadLine { line: 4 };
-    assert_eq!(fault.to_string(), "line 4 is no line of a journal");
+    assert_eq!(fault.to_string(), "line 4: a line of the journal is damaged");
 }
 
 #[test]
 fn a_file_is_begun_where_it_has_a_part_of_the_head_line_alone() {
-    let settings = settings(KILLED, HISTORY_MAX);
     for length in 0..HEAD.len() {
         let place = Place::new("begun");
         fs::write(&place.0, &HEAD[..length]).unwrap();
-        place.open(&settings).unwrap();
+        drop(place.open());
         assert_eq!(place.has(), HEAD);
     }
     let place = Place::new("letter");
     fs::write(&place.0, "a letter to Anna").unwrap();
-    let fault = JournalFault::NotResumed(ResumeFault::BadLine { line: 1 });
-    assert_eq!(place.open(&settings).unwrap_err(), fault);
+    let fault = place.fault(settings(KILLED));
+    assert_eq!(fault.to_string(), format!("{}: line 1: a line of the journal is damaged", place.0.display()));
     assert_eq!(place.has(), "a letter to Anna");
-    let missing = Journal::open(&place.0.join("no").join("folder"), &settings).unwrap_err();
-    assert!(matches!(missing, JournalFault::File(_)), "{missing:?}");
-    let refused = Place::new("nobody").open(&Settings { me: 3, ..settings }).unwrap_err();
-    assert_eq!(refused, JournalFault::Refused(Refusal::BadMember));
+    let missing = Place(place.0.join("no").join("folder"));
+    let fault = missing.fault(settings(KILLED));
+    assert!(matches!(fault, JournalFault::File { .. }), "{fault}");
+    assert!(fault.to_string().starts_with(&format!("{}: ", missing.0.display())), "{fault}");
+    let refused = Place::new("nobody").fault(settings(3));
+    assert!(matches!(refused, JournalFault::Refused { refusal: Refusal::BadMember, .. }), "{refused}");
+    assert_eq!(refused.source().unwrap().to_string(), Refusal::BadMember.to_string());
 }
 
-/// Its entries are those of its last call: one that is refused or asks for help has none, and each is written once.
+/// An entry is in the file before the output of its call is there. A call that is refused or asks for help has none.
 #[test]
-fn without_a_history_the_entries_of_each_call_are_written_once() {
-    let place = Place::new("without");
-    let settings = settings(KILLED, 0);
-    let (mut journal, mut member) = place.open(&settings).unwrap();
-    let mut expected = HEAD.to_string();
-    let mut call = |member: &mut Member, line: &str, call: Call<'_>| {
-        let _ = call(member);
-        expected += line;
-        for _ in 0..2 {
-            journal.append(member).unwrap();
+fn the_entries_of_each_call_are_written_once() {
+    for history_max in [HISTORY_MAX, 0] {
+        let place = Place::new("once");
+        let mut journal = place.open_with(history_max);
+        let mut expected = HEAD.to_string();
+        let rows = [
+            (Call::Tick, TICK),
+            (Call::Tick, ""),
+            (Call::Cast(b"a"), "cast 11070101000161\n"),
+            (Call::Help(0), ""),
+            (Call::Receive(b"?"), ""),
+        ];
+        for (call, line) in rows {
+            expected += line;
+            let output = call.written(&mut journal);
+            assert_eq!(output.is_ok_and(|output| output.is_entered()), !line.is_empty());
             assert_eq!(place.has(), expected);
         }
-    };
-    call(&mut member, TICK, &Member::tick);
-    call(&mut member, "", &Member::tick);
-    call(&mut member, "cast 11070101000161\n", &|member| member.cast(b"a"));
-    call(&mut member, "", &|member| member.help(0));
-    call(&mut member, "", &|member| member.receive(b"?").map(drop));
-    let frames = [bytes_of("11070002000162"), bytes_of("11070001000161")];
-    let lines = format!("arrive {} -\narrive {} 0.1 0.2\n", hexadecimal(&frames[0]), hexadecimal(&frames[1]));
-    call(&mut member, &lines, &|member| {
-        member.load(&frames.concat())?;
-        member.receive_parts(0, &[7, 7]).map(drop)
-    });
-    drop(journal);
-    let (mut journal, mut back) = place.open(&settings).unwrap();
-    assert_eq!(reading(&mut back), reading(&mut member));
-    assert_eq!(back.counts().entries, 4);
-    assert_eq!(back.new_events().map(|event| event.name.to_string()).collect::<Vec<_>>(), ["1.1", "0.1", "0.2"]);
-    journal.append(&back).unwrap();
-    back.tick().unwrap();
-    journal.append(&back).unwrap();
-    assert_eq!(place.has(), format!("{expected}tick 1207010200020001\n"));
+        let frames = [bytes_of("11070002000162"), bytes_of("11070001000161")];
+        expected += &format!("arrive {} -\narrive {} 0.1 0.2\n", hexadecimal(&frames[0]), hexadecimal(&frames[1]));
+        journal.load(&frames.concat()).unwrap();
+        let (taken, mut output) = journal.receive_parts(0, &[7, 7]).unwrap().unwrap();
+        assert_eq!(
+            (place.has(), taken, payloads(output.events())),
+            (expected.clone(), 2, vec![b"a".into(), b"b".into()])
+        );
+        let repeat = journal.receive_loaded(0..7).unwrap().unwrap();
+        assert_eq!((repeat.is_repeat(), place.has()), (true, expected.clone()));
+        let before = reading(journal.member(), history_max);
+        drop(journal);
+        let mut back = place.open_with(history_max);
+        assert_eq!((reading(back.member(), history_max), back.member().counts().entries), (before, 4));
+        assert_eq!(back.events(..).map(|event| event.name.to_string()).collect::<Vec<_>>(), ["1.1", "0.1", "0.2"]);
+        assert!(back.tick().unwrap().unwrap().is_entered());
+        assert_eq!(place.has(), format!("{expected}tick 1207010200020001\n"));
+        assert_eq!(payloads(back.cast(b"c").unwrap().unwrap().events()), [b"c"]);
+    }
+}
+
+// RECEIVE: begin
+/// Takes a datagram. A fault of the file is the outer error: then send nothing more, end, and come back.
+fn take(journal: &mut Journal, datagram: &[u8], host: &mut Host) -> Result<(), Box<dyn Error>> {
+    match journal.receive(datagram)? {
+        Ok(output) => send_and_show(output, host),
+        Err(refusal) if refusal.is_frame_fault() || refusal.is_transient() => host.dropped += 1,
+        Err(refusal) => return Err(refusal.into()),
+    }
+    Ok(())
+}
+// RECEIVE: end
+
+#[derive(Default)]
+struct Host {
+    sent: Vec<Sent>,
+    shown: Vec<Vec<u8>>,
+    dropped: usize,
+}
+
+fn send_and_show(mut output: Output<'_>, host: &mut Host) {
+    host.shown.extend(output.events().map(|event| event.payload.to_vec()));
+    host.sent.extend(sent(output));
 }
 
 #[test]
-fn without_a_history_an_entry_that_was_left_out_is_seen() {
-    let place = Place::new("left-out");
-    let (mut journal, mut member) = place.open(&settings(KILLED, 0)).unwrap();
-    member.tick().unwrap();
-    journal.append(&member).unwrap();
-    for _ in 0..2 {
-        member.tick().unwrap(); // it has no news, and so no entry
-    }
-    member.cast(b"a").unwrap();
-    journal.append(&member).unwrap();
-    let written = place.has();
-    member.cast(b"b").unwrap();
-    member.receive(&bytes_of("11070001000161")).unwrap();
-    for _ in 0..2 {
-        assert_eq!(journal.append(&member), Err(JournalFault::LeftOut));
-    }
-    assert_eq!(place.has(), written);
+fn a_datagram_is_taken_or_dropped_until_the_history_is_full() {
+    let place = Place::new("take");
+    let (mut journal, mut host) = (place.open_with(1), Host::default());
+    let frames = ["11070001000161", "3f", "11070002000162"].map(bytes_of);
+    take(&mut journal, &frames[0], &mut host).unwrap();
+    take(&mut journal, &frames[1], &mut host).unwrap();
+    assert_eq!((&host.sent[..], &host.shown[..], host.dropped), (&[][..], &[b"a".to_vec()][..], 1));
+    let fault = take(&mut journal, &frames[2], &mut host).unwrap_err();
+    assert_eq!((fault.to_string(), host.dropped), (Refusal::HistoryFull.to_string(), 1));
+    assert_eq!(place.has(), format!("{HEAD}arrive 11070001000161 0.1\n"));
 }
 
 /// A line that has many names is longer than what is copied at first.
 #[test]
 fn a_long_line_is_whole() {
-    let settings = |me| Settings { group: 7, size: 2, window: 256, me, history_max: 1_000 };
-    let (mut sender, mut member) = (Member::open(settings(0)).unwrap(), Member::open(settings(1)).unwrap());
-    let mut frames = Vec::new();
-    for _ in 0..256 {
-        sender.cast(&[0x61; 1_024]).unwrap();
-        frames.push(sender.frames().next().unwrap().bytes.to_vec());
-    }
+    let settings = |me| Settings { group: 7, size: 2, window: 256, me };
+    let open = |me| Member::open_with_history(settings(me), 1_000).unwrap();
+    let (mut sender, mut member) = (open(0), open(1));
+    let mut frames: Vec<_> = (0..256).flat_map(|_| sent(sender.cast(&[0x61; 1_024]).unwrap())).collect();
     frames.rotate_left(1);
-    frames.iter().for_each(|frame| assert!(member.receive(frame).unwrap().is_entered));
+    frames.iter().for_each(|(_, frame)| assert!(member.receive(frame).unwrap().is_entered()));
     let line = member.journal_line(255).unwrap();
     assert!(line.len() > 3_072 && line.ends_with(" 0.255 0.256\n"), "{line}");
     let text =
         member.journal_head().unwrap() + &(0..256).map(|it| member.journal_line(it).unwrap()).collect::<String>();
-    assert_eq!(resumed(&text).unwrap().member.time(), [256, 0]);
+    assert_eq!(resumed(&text).unwrap().into_member().time(), [256, 0]);
 }
 
-/// One that begins anew is silently ignored, and refuses what the others say of it.
+/// A member that begins anew is silently ignored, and refuses what the others say of it.
 #[test]
 fn a_member_without_its_journal_is_ignored() {
-    let (mut before, mut other) = (open(KILLED, HISTORY_MAX), open(0, HISTORY_MAX));
-    before.cast(b"a").unwrap();
-    other.receive(before.frames().next().unwrap().bytes).unwrap();
+    let (mut before, mut other) = (open(KILLED, 0), open(0, 0));
+    let frame = |mut output: Output<'_>| output.frames().next().unwrap().bytes.to_vec();
+    assert!(!other.receive(&frame(before.cast(b"a").unwrap())).unwrap().is_repeat());
     drop(before);
-    let mut anew = open(KILLED, HISTORY_MAX);
-    anew.cast(b"b").unwrap();
-    let received = other.receive(anew.frames().next().unwrap().bytes).unwrap();
-    assert!(received.is_repeat);
-    anew = open(KILLED, HISTORY_MAX);
-    other.tick().unwrap();
-    assert_eq!(anew.receive(other.frames().next().unwrap().bytes), Err(Refusal::Impossible));
+    let mut anew = open(KILLED, 0);
+    assert!(other.receive(&frame(anew.cast(b"b").unwrap())).unwrap().is_repeat());
+    anew = open(KILLED, 0);
+    let status = frame(other.tick().unwrap());
+    assert_eq!(anew.receive(&status).map(drop), Err(Refusal::Impossible));
 }

@@ -5,7 +5,7 @@
 mod lines;
 mod text;
 
-use jolunza::{Member, Name, Refusal, Settings};
+use jolunza::{Member, Name, Output, Refusal, Settings};
 use lines::{Conference, Showing};
 use std::fmt::Write;
 use std::fs;
@@ -34,28 +34,13 @@ fn printed_payload(payload: &[u8]) -> String {
     }
 }
 
-impl Player {
-    /// Shows what is new, and prints the deliveries.
-    fn show_news(&mut self, out: &mut String) {
-        for event in self.member.new_events() {
-            if !event.is_own {
-                let (time, payload) = (printed_time(event.time), printed_payload(event.payload));
-                writeln!(out, " = {} {time} {payload}", event.name).unwrap();
-            }
-            if let Showing::Shown(shown) = self.conference.show(event.name, event.payload) {
-                self.screen.push(shown.to_string());
-            }
-        }
-    }
-}
-
 impl Play {
     fn new(line: &str) -> Play {
         let numbers: Vec<u32> = line.split(' ').filter_map(|word| word.parse().ok()).collect();
         let [group, size, window, history] = numbers[..] else { panic!("{line}") };
-        let settings = |me| Settings { group, size, window, me, history_max: history as usize };
+        let settings = |me| Settings { group, size, window, me };
         let player = |me| Player {
-            member: Member::open(settings(me)).unwrap(),
+            member: Member::open_with_history(settings(me), history as usize).unwrap(),
             conference: Conference::default(),
             screen: Vec::new(),
         };
@@ -88,47 +73,66 @@ impl Play {
     }
 
     fn cast(&mut self, place: usize, payload: &[u8]) {
-        let member = &mut self.players[place].member;
-        let done = member.cast(payload);
-        let time = member.time();
-        self.answered(place, done, |_| format!("cast {place}.{} {}", time[place], printed_time(&time)));
+        self.call(
+            place,
+            |member| member.cast(payload),
+            |output| {
+                let event = output.events().next().unwrap();
+                format!("cast {} {}", event.name, printed_time(event.time))
+            },
+        );
     }
 
     /// The time is that of the first message.
     fn burst<'w>(&mut self, place: usize, words: impl Iterator<Item = &'w str>) {
         let payloads: Vec<Vec<u8>> = words.map(bytes_of).collect();
-        let member = &mut self.players[place].member;
-        let mut time = member.time();
-        let done = member.cast_burst(&payloads.iter().map(Vec::as_slice).collect::<Vec<_>>());
-        time[place] += 1;
-        let (first, last) = (time[place], member.time()[place]);
-        self.answered(place, done, |()| format!("burst {place}.{first} {place}.{last} {}", printed_time(&time)));
+        let payloads: Vec<&[u8]> = payloads.iter().map(Vec::as_slice).collect();
+        self.call(
+            place,
+            |member| member.cast_burst(&payloads),
+            |output| {
+                let last = output.events().last().unwrap().name;
+                let first = output.events().next().unwrap();
+                format!("burst {} {last} {}", first.name, printed_time(first.time))
+            },
+        );
     }
 
     fn arrive(&mut self, place: usize, frame: &str) {
         let Some(bytes) = frame.parse().ok().and_then(|number: usize| self.frames.get(number)) else {
             return writeln!(self.out, "refused NoSuchFrame").unwrap();
         };
-        let done = self.players[place].member.receive(bytes);
-        self.answered(place, done, |received| match (received.is_repeat, received.is_entered) {
-            (true, _) => "arrive repeat".into(),
-            (false, true) => "arrive accepted changed".into(),
-            (false, false) => "arrive accepted same".into(),
-        });
+        let bytes = bytes.clone();
+        self.call(
+            place,
+            |member| member.receive(&bytes),
+            |output| match (output.is_repeat(), output.is_entered()) {
+                (true, _) => "arrive repeat".into(),
+                (false, true) => "arrive accepted changed".into(),
+                (false, false) => "arrive accepted same".into(),
+            },
+        );
     }
 
     fn tick(&mut self, place: usize) {
-        let member = &mut self.players[place].member;
-        let before = member.counts().entries;
-        let done = member.tick();
-        let entered = if member.counts().entries > before { "entered" } else { "same" };
-        self.answered(place, done, |_| format!("tick {entered}"));
+        self.call(place, Member::tick, |output| {
+            format!("tick {}", if output.is_entered() { "entered" } else { "same" })
+        });
     }
 
     fn help(&mut self, place: usize, other: &str) {
-        let member = &mut self.players[place].member;
-        let done = member.help(other.parse().unwrap()).map(|()| member.frames().len());
-        self.answered(place, done, |frames| if frames == 0 { "help none".into() } else { "help".into() });
+        let other = other.parse().unwrap();
+        self.call(
+            place,
+            |member| member.help(other),
+            |output| {
+                if output.frames().len() == 0 {
+                    "help none".into()
+                } else {
+                    "help".into()
+                }
+            },
+        );
     }
 
     fn screen(&mut self, place: usize) {
@@ -139,14 +143,29 @@ impl Play {
         }
     }
 
-    fn answered<T>(&mut self, place: usize, done: Result<T, Refusal>, text: impl Fn(T) -> String) {
-        match done {
+    /// Makes a call, prints the text of what it did, the deliveries, and what is sent, and shows what is new.
+    fn call(
+        &mut self,
+        place: usize,
+        call: impl FnOnce(&mut Member) -> Result<Output<'_>, Refusal>,
+        text: impl Fn(&mut Output<'_>) -> String,
+    ) {
+        let Player { member, conference, screen } = &mut self.players[place];
+        let mut output = match call(member) {
             Err(refusal) => return writeln!(self.out, "refused {refusal:?}").unwrap(),
-            Ok(done) => writeln!(self.out, "{}", text(done)).unwrap(),
+            Ok(output) => output,
+        };
+        writeln!(self.out, "{}", text(&mut output)).unwrap();
+        for event in output.events() {
+            if !event.is_own {
+                let (time, payload) = (printed_time(event.time), printed_payload(event.payload));
+                writeln!(self.out, " = {} {time} {payload}", event.name).unwrap();
+            }
+            if let Showing::Shown(shown) = conference.show(event.name, event.payload) {
+                screen.push(shown.to_string());
+            }
         }
-        let player = &mut self.players[place];
-        player.show_news(&mut self.out);
-        for frame in player.member.frames() {
+        for frame in output.frames() {
             let to = frame.to.map_or("all".into(), |member| member.to_string());
             writeln!(self.out, " > {} {to} {}", self.frames.len(), hexadecimal(frame.bytes)).unwrap();
             self.frames.push(frame.bytes.to_vec());

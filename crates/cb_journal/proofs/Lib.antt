@@ -6,3 +6,4 @@ pub mod Bounds
 pub mod Beginnings
 mod Rows
 pub mod Keeping
+pub mod Refusals

@@ -1,6 +1,6 @@
 -- What was written, in parts.
 use Rattle.std.proofs.Common.{◌≡◌, ℕ, List, [], ◌∷◌, ◌++◌, length, take, drop, sym, ap, subst, ◌∙◌, arith, append_assoc}
-use Rattle.std.specs.Prelude.{Option, Some, None}
+use Rattle.std.specs.Prelude.{Option, Some, None, Result, Ok, Err, IfErr}
 use Rattle.std.specs.Io.KnownBytes.{Appends, Keeps}
 use Rattle.std.proofs.lemmas.List.{append-nil, map-append, take-append-drop}
 use Rattle.cb_history.specs.Group.{Identity}
@@ -8,7 +8,9 @@ use Rattle.cb_history.specs.Facts.{EntryFields}
 use Rattle.cb_lines.specs.Text.{entry_line, text_of_lines, with_line_feed}
 use Rattle.cb_lines.proofs.Lines.{no_lines, one_line, line_more}
 use Rattle.cb_journal.specs.Journal.{head_line, journal_lines, journal_text}
-use Rattle.cb_journal.specs.Writing.{KeepsFront, WritesPart}
+use Rattle.cb_journal.specs.declared.fault.AppendFault.{AppendFault}
+use Rattle.cb_journal.specs.declared.fault.AppendFault.TheVariants as appends
+use Rattle.cb_journal.specs.Writing.{DeviceRefuses, IsOfSync, KeepsFront, WritesPart}
 
 pub appends_none : (known : Option (List ℕ)) → Appends known known []
 appends_none None = tt
@@ -56,6 +58,16 @@ wrote_part before now after bytes rest w a = record {
   parts = w.1;
   appended = subst (Appends before after) (append-nil w.0) (appends_more before now after w.0 [] w.2 a);
 }
+
+-- ---- why not
+
+-- all was written, and then the device did not make it last
+pub refused_syncing : {A : Type 0} (before now after : Option (List ℕ)) (bytes : List ℕ) (r : Result A AppendFault) → Appends before now bytes → Keeps now after → IfErr r IsOfSync → IfErr r (DeviceRefuses before after bytes)
+refused_syncing before now after bytes (Ok x) a k is = tt
+refused_syncing before now after bytes (Err (appends.Sync kind)) a k is = appends_kept before now after bytes a k
+refused_syncing before now after bytes (Err (appends.Write kind)) a k is = absurd is
+refused_syncing before now after bytes (Err (appends.Cut kind)) a k is = absurd is
+refused_syncing before now after bytes (Err appends.NoMemory) a k is = absurd is
 
 -- ---- beginning
 

@@ -2,5 +2,6 @@ pub mod Journal
 pub mod Reading
 pub mod Laws
 pub mod Writing
+pub mod Refusing
 pub mod Finding
 pub mod FaultText

@@ -4,6 +4,9 @@ use Rattle.std.specs.Io.KnownBytes.{Appends}
 use Rattle.cb_history.specs.Group.{Identity}
 use Rattle.cb_history.specs.Facts.{EntryFields}
 use Rattle.cb_journal.specs.declared.fault.AppendFault.{AppendFault}
+use Rattle.cb_journal.specs.declared.fault.AppendFault.TheVariants as appends
+use Rattle.cb_journal.specs.declared.keeper.KeepFault.{KeepFault}
+use Rattle.cb_journal.specs.declared.keeper.KeepFault.TheVariants as keeping
 use Rattle.cb_journal.specs.Journal.{journal_text}
 
 -- known bytes end behind the first ones
@@ -18,6 +21,27 @@ pub record WritesPart (before now : Option (List ℕ)) (bytes : List ℕ) : Type
   pub rest : List ℕ
   pub parts : bytes ≡ part ++ rest
   pub appended : Appends before now part
+
+-- the device did not make all bytes last, or did not take all of them
+abbrev pub DeviceRefuses : Option (List ℕ) → Option (List ℕ) → List ℕ → AppendFault → Type 0
+DeviceRefuses before now bytes (appends.Sync kind) = Appends before now bytes
+DeviceRefuses before now bytes (appends.Write kind) = WritesPart before now bytes
+DeviceRefuses before now bytes (appends.Cut kind) = ⊥
+DeviceRefuses before now bytes appends.NoMemory = ⊥
+
+-- the device did not make its bytes last
+abbrev pub IsOfSync : AppendFault → Type 0
+IsOfSync (appends.Sync kind) = ⊤
+IsOfSync (appends.Write kind) = ⊥
+IsOfSync (appends.Cut kind) = ⊥
+IsOfSync appends.NoMemory = ⊥
+
+-- how a keeper tells the fault of a writer
+abbrev pub keep_fault : AppendFault → KeepFault
+keep_fault appends.NoMemory = keeping.NoMemory
+keep_fault (appends.Cut kind) = keeping.Device
+keep_fault (appends.Write kind) = keeping.Device
+keep_fault (appends.Sync kind) = keeping.Device
 
 -- What the device holds, and what it holds after a crash, is the journal of a member with just these entries, and no fault stands in the
 -- way of the next one.

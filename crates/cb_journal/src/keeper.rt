@@ -1,9 +1,10 @@
 //! Where the entries of a member are kept before anything is sent of them.
 
-ghost use Rattle.std.specs.Prelude.{◌≡◌, ◌∷◌, ◌++◌, [], List, OnOk, Some};
+ghost use Rattle.std.specs.Prelude.{◌≡◌, ◌∷◌, ◌++◌, [], List, IfErr, OnOk, Some};
 ghost use Rattle.cb_history.specs.Facts.{EntryFields, entry_fields};
 ghost use Rattle.cb_journal.specs.FaultText.{keep_fault_text};
-ghost use Rattle.cb_journal.specs.Writing.{HasJournal};
+ghost use Rattle.cb_lines.specs.Text.{entry_line, with_line_feed};
+ghost use Rattle.cb_journal.specs.Writing.{HasJournal, keep_fault};
 
 use crate::device::Device;
 use crate::fault::AppendFault;
@@ -19,6 +20,19 @@ pub enum KeepFault {
     Device,
     /// Out of memory.
     NoMemory,
+}
+
+impl From<AppendFault> for KeepFault {
+    ghost from_gives = { λ fault told. told ≡ keep_fault fault };
+
+    fn from(fault: AppendFault) -> KeepFault {
+        match fault {
+            AppendFault::NoMemory => KeepFault::NoMemory,
+            AppendFault::Cut { .. } | AppendFault::Write { .. } | AppendFault::Sync { .. } => {
+                KeepFault::Device
+            }
+        }
+    }
 }
 
 impl fmt::Display for KeepFault {
@@ -59,14 +73,24 @@ impl Keeper for NoJournal {
 
 /// A journal: each entry outlasts a crash before it is kept.
 impl<D: Device + Drop> Keeper for JournalWriter<D> {
+    ghost use Rattle.cb_journal.specs.Refusing.{RefusesToKeep};
+
     ghost has = { λ w entries.
         HasJournal (D.contents w.device) (D.lasting w.device) w.fault entries };
 
-    fn keep(&mut self, entry: &Entry) -> Result<(), KeepFault> {
-        match self.append(entry) {
-            Ok(()) => Ok(()),
-            Err(AppendFault::NoMemory) => Err(KeepFault::NoMemory),
-            Err(_) => Err(KeepFault::Device),
-        }
+    #[tactic(auto, using(crate::proofs::Refusals::not_kept))]
+    fn keep(&mut self, entry: &Entry) -> Result<(), KeepFault>
+        // Of a journal of some entries it becomes that of these and one more.
+        ensures kept { OnOk result ((entries : List EntryFields)
+            → HasJournal (D.contents self.old.device) (D.lasting self.old.device) self.old.fault
+            entries
+            → HasJournal (D.contents self.new.device) (D.lasting self.new.device) self.new.fault
+            (entries ++ entry_fields entry.now ∷ [])) }
+        // For want of memory no byte was written; else the device refused the line.
+        ensures refused { IfErr result (RefusesToKeep D.contents self.old self.new
+            (with_line_feed (entry_line (entry_fields entry.now)))) }
+    {
+        self.append(entry)?;
+        Ok(())
     }
 }

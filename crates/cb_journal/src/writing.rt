@@ -8,7 +8,7 @@ ghost use Rattle.cb_history.specs.LegalHistory.{seat_in};
 ghost use Rattle.cb_lines.specs.Text.{entry_line, with_line_feed};
 ghost use Rattle.cb_journal.specs.Journal.{journal_text};
 ghost use Rattle.cb_journal.specs.Reading.{IsRead, entries_in};
-ghost use Rattle.cb_journal.specs.Writing.{HasJournal, KeepsFront, WritesPart};
+ghost use Rattle.cb_journal.specs.Writing.{DeviceRefuses, HasJournal, IsOfSync, KeepsFront, WritesPart};
 
 use crate::device::Device;
 use crate::fault::AppendFault;
@@ -35,6 +35,8 @@ pub struct JournalWriter<D> {
 }
 
 impl<D: Device + Drop> JournalWriter<D> {
+    ghost use Rattle.cb_journal.specs.Refusing.{SaysWhy};
+
     /// Begins the journal of this member: all that the device holds is cut off, and the head line is written.
     pub fn begin(alloc: Global, device: D, seat: Identity) -> Result<JournalWriter<D>, AppendFault>
         ensures text { (bytes : List ℕ) → D.contents device ≡ Some bytes → IfOk result (λ writer.
@@ -101,6 +103,9 @@ impl<D: Device + Drop> JournalWriter<D> {
             (D.contents self.new.device)
             (with_line_feed (entry_line (entry_fields entry.now)))) }
         ensures fault { IfErr result (λ fault. self.new.fault ≡ Some fault) }
+        // For want of memory the device is as it was; else it refused the line, which was made.
+        ensures why { IfErr result (λ fault. self.old.fault ≡ None → SaysWhy D.contents
+            self.old self.new (with_line_feed (entry_line (entry_fields entry.now))) fault) }
         // From the first fault on nothing is written.
         ensures again { IfSome self.old.fault (λ fault. (result ≡ Err fault)
             × (self.new ≡ self.old)) }
@@ -117,6 +122,7 @@ impl<D: Device + Drop> JournalWriter<D> {
         }
     }
 
+    #[tactic(auto, using(crate::proofs::Refusals::refused_line))]
     fn write(&mut self, entry: &Entry) -> Result<(), AppendFault>
         ensures ok { OnOk result (Appends (D.contents self.old.device) (D.contents self.new.device)
             (with_line_feed (entry_line (entry_fields entry.now)))) }
@@ -124,6 +130,8 @@ impl<D: Device + Drop> JournalWriter<D> {
             (Keeps (D.contents self.new.device) (D.lasting self.new.device)) }
         ensures err { OnErr result (WritesPart (D.contents self.old.device)
             (D.contents self.new.device)
+            (with_line_feed (entry_line (entry_fields entry.now)))) }
+        ensures why { IfErr result (SaysWhy D.contents self.old self.new
             (with_line_feed (entry_line (entry_fields entry.now)))) }
         ensures fault { self.new.fault ≡ self.old.fault }
     {
@@ -154,33 +162,26 @@ impl<D: Device + Drop> JournalWriter<D> {
 }
 
 /// Writes all of a line, and makes it outlast a crash.
+#[tactic(auto, using(crate::proofs::Parts::refused_syncing))]
 fn put_line<D: Device>(device: &mut D, line: &[u8]) -> Result<(), AppendFault>
     ensures ok { OnOk result (Appends (D.contents device.old) (D.contents device.new) line.now) }
     ensures lasts { OnOk result (Keeps (D.contents device.new) (D.lasting device.new)) }
     ensures err { OnErr result
         (WritesPart (D.contents device.old) (D.contents device.new) line.now) }
+    ensures refused { IfErr result
+        (DeviceRefuses (D.contents device.old) (D.contents device.new) line.now) }
 {
-    write_whole(device, line)?;
-    match finish(device) {
-        Ok(()) => Ok(()),
-        Err(fault) => Err(fault),
+    match write_and_flush(device, line) {
+        Ok(()) => synced(device),
+        Err(kind) => Err(AppendFault::Write { kind }),
     }
 }
 
 /// Makes what was written outlast a crash.
-fn finish<D: Device>(device: &mut D) -> Result<(), AppendFault>
-    ensures held { Keeps (D.contents device.old) (D.contents device.new) }
-    ensures lasts { OnOk result (Keeps (D.contents device.new) (D.lasting device.new)) }
-{
-    match device.flush() {
-        Ok(()) => synced(device),
-        Err(fault) => Err(AppendFault::Write { kind: fault.kind() }),
-    }
-}
-
 fn synced<D: Device>(device: &mut D) -> Result<(), AppendFault>
     ensures held { Keeps (D.contents device.old) (D.contents device.new) }
     ensures lasts { OnOk result (Keeps (D.contents device.new) (D.lasting device.new)) }
+    ensures refused { IfErr result IsOfSync }
 {
     match device.sync() {
         Ok(()) => Ok(()),
@@ -200,27 +201,25 @@ fn cut_to<D: Device>(device: &mut D, length: u64) -> Result<(), AppendFault>
 }
 
 /// Writes some of the bytes, none of them only where the write was interrupted.
-fn write_some<W: Write>(output: &mut W, bytes: &[u8]) -> Result<usize, AppendFault>
+fn write_some<W: Write>(output: &mut W, bytes: &[u8]) -> Result<usize, ErrorKind>
     ensures within { IfOk result (λ count. count ≤ length bytes.now) }
     ensures ok { IfOk result (λ count.
         Appends (W.contents output.old) (W.contents output.new) (take count bytes.now)) }
     ensures err { OnErr result (Appends (W.contents output.old) (W.contents output.new) []) }
 {
     match output.write(bytes) {
-        Ok(0) => Err(AppendFault::Write {
-            kind: ErrorKind::WriteZero,
-        }),
+        Ok(0) => Err(ErrorKind::WriteZero),
         Ok(count) => Ok(count),
         Err(fault) => match fault.kind() {
             ErrorKind::Interrupted => Ok(0),
-            kind => Err(AppendFault::Write { kind }),
+            kind => Err(kind),
         },
     }
 }
 
 /// Writes all of the bytes, as std's `write_all` does: a write that was interrupted is tried again. After a fault a beginning of them
 /// may be written.
-fn write_whole<W: Write>(output: &mut W, bytes: &[u8]) -> Result<(), AppendFault>
+fn write_whole<W: Write>(output: &mut W, bytes: &[u8]) -> Result<(), ErrorKind>
     ensures ok { OnOk result (Appends (W.contents output.old) (W.contents output.new) bytes.now) }
     ensures err { OnErr result
         (WritesPart (W.contents output.old) (W.contents output.new) bytes.now) }
@@ -234,7 +233,18 @@ fn write_whole<W: Write>(output: &mut W, bytes: &[u8]) -> Result<(), AppendFault
         let (_, after) = rest.split_at(count);
         rest = after;
     }
-    Err(AppendFault::Write {
-        kind: ErrorKind::Interrupted,
-    })
+    Err(ErrorKind::Interrupted)
+}
+
+/// Writes all of the bytes, so that a device that holds bytes back passes them on.
+fn write_and_flush<W: Write>(output: &mut W, bytes: &[u8]) -> Result<(), ErrorKind>
+    ensures ok { OnOk result (Appends (W.contents output.old) (W.contents output.new) bytes.now) }
+    ensures err { OnErr result
+        (WritesPart (W.contents output.old) (W.contents output.new) bytes.now) }
+{
+    write_whole(output, bytes)?;
+    match output.flush() {
+        Ok(()) => Ok(()),
+        Err(fault) => Err(fault.kind()),
+    }
 }

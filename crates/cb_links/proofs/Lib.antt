@@ -1,3 +1,4 @@
 pub mod Rising
 pub mod Sending
 pub mod Goings
+pub mod Outcomes

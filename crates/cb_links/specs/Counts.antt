@@ -1,5 +1,5 @@
 -- Counts of failures, which stay at their greatest value.
-use Rattle.std.specs.Prelude.{◌⊎◌, ℕ, ◌+◌, ◌<◌, ◌≤◌, min}
+use Rattle.std.specs.Prelude.{◌≡◌, ◌⊎◌, ℕ, ◌+◌, ◌<◌, ◌≤◌, min}
 use Rattle.cb_links.specs.declared.link.LinkFault.{LinkFault}
 use Rattle.cb_links.specs.declared.link.LinkFault.TheVariants as faults
 
@@ -15,10 +15,10 @@ held n = min n greatest
 abbrev pub HasCounted : ℕ → ℕ → Type 0
 HasCounted old new = (old < new) ⊎ (greatest ≤ new)
 
--- where a device failed, that was counted
+-- where a device failed, that was counted; want of memory is no failure
 abbrev pub LinkCounts : LinkFault → ℕ → ℕ → Type 0
 LinkCounts faults.Device old new = HasCounted old new
-LinkCounts faults.NoMemory old new = Unit {0}
+LinkCounts faults.NoMemory old new = new ≡ old
 
 -- Failures that were met are at most those by which the count rose, unless it stands at its greatest value.
 abbrev pub MetAtMost : ℕ → ℕ → ℕ → Type 0

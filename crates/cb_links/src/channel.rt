@@ -1,8 +1,9 @@
 //! A link over channels, for members of one process.
 
-ghost use Rattle.std.specs.Prelude.{◌≡◌, ◌≤◌, IfErr, IfOk, length};
-ghost use Rattle.cb_links.specs.Counts.{LinkCounts};
-ghost use Rattle.cb_links.specs.Offers.{bytes_for, is_for};
+ghost use Rattle.std.specs.Prelude.{◌≡◌, ◌+◌, ◌≤◌, IfErr, IfOk, OnOk, length, map, slice_get};
+ghost use Rattle.cb_links.specs.Counts.{LinkCounts, held};
+ghost use Rattle.cb_links.specs.Ends.{outcome_at, outcome_for, outcome_to};
+ghost use Rattle.cb_links.specs.Offers.{answer_of, at_all, bytes_for, is_for};
 
 use crate::link::{Inlet, LinkFault, Offered, Outlet, Received, Unsent, WaitingInlet};
 use crate::mailbox::{Mailbox, Slot, Taken, new_mailbox};
@@ -240,9 +241,14 @@ impl ChannelOutlet {
         ensures rises { self.old.failures ≤ self.new.failures }
         ensures fault { IfErr result (λ fault. LinkCounts fault self.old.failures
             self.new.failures) }
+        ensures taken { OnOk result (self.new.failures ≡ self.old.failures) }
+        ensures counted { self.new.failures ≡ held
+            (self.old.failures + (outcome_for self.old.to.items out.now.to).failures) }
+        ensures answer { result ≡ answer_of (outcome_for self.old.to.items out.now.to) }
+        ensures same { self.new.to ≡ self.old.to }
     {
         let offered = match out.to {
-            Some(member) => offered_to(self.to.get(member as usize)),
+            Some(member) => offered_to(&self.to, member),
             None => offered_to_all(&self.to),
         };
         self.failures = self.failures.saturating_add(offered.failures);
@@ -252,15 +258,19 @@ impl ChannelOutlet {
 
 /// The outcome of the last frames at one member; there is none for a number that is the sender's
 /// own or no member's.
-fn offered_to(to: Option<&Option<End>>) -> Offered {
-    match to {
+fn offered_to(to: &[Option<End>], member: u32) -> Offered
+    ensures { result ≡ outcome_to (slice_get to.now member) }
+{
+    match to.get(member as usize) {
         Some(Some(end)) => end.offered,
         _ => Offered::failed(),
     }
 }
 
 /// The outcome of the last frames at all others.
-fn offered_to_all(to: &[Option<End>]) -> Offered {
+fn offered_to_all(to: &[Option<End>]) -> Offered
+    ensures { result ≡ at_all (map outcome_at to.now) }
+{
     let mut offered = Offered::taken();
     for end in to {
         offered = offered.and(offered_last(end));
@@ -268,7 +278,9 @@ fn offered_to_all(to: &[Option<End>]) -> Offered {
     offered
 }
 
-fn offered_last(to: &Option<End>) -> Offered {
+fn offered_last(to: &Option<End>) -> Offered
+    ensures { result ≡ outcome_at to.now }
+{
     match to {
         Some(end) => end.offered,
         None => Offered::taken(),

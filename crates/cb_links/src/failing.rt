@@ -1,7 +1,8 @@
 //! Links of which one call fails: what becomes of a group then is to be tried.
 
-ghost use Rattle.std.specs.Prelude.{◌≡◌, ◌≤◌, ℕ, Decides, Err, IfErr, Ok, false, true};
+ghost use Rattle.std.specs.Prelude.{◌≡◌, ◌≤◌, ℕ, Decides, Err, IfErr, MatchResult, Ok, OnOk, false, true};
 ghost use Rattle.cb_links.specs.Counts.{HasCounted, LinkCounts};
+ghost use Rattle.cb_links.specs.Offers.{failures_with};
 ghost use Rattle.cb_links.specs.Failing.{and_call, begun_at, failures_of, next_fails};
 ghost use Rattle.cb_links.specs.declared.link.LinkFault.TheVariants.{Device};
 
@@ -95,13 +96,17 @@ impl<I: Inlet> Inlet for FailInlet<I> {
         ensures fault { IfErr result (λ fault. LinkCounts fault
             (failures_of (I.failed self.old.inner) self.old.calls)
             (failures_of (I.failed self.new.inner) self.new.calls)) }
+        ensures counted { MatchResult result
+            (λ _. failures_of (I.failed self.new.inner) self.new.calls
+            ≡ failures_of (I.failed self.old.inner) self.old.calls)
+            (λ fault. failures_of (I.failed self.new.inner) self.new.calls
+            ≡ failures_with (failures_of (I.failed self.old.inner) self.old.calls) fault) }
         ensures calls { self.new.calls ≡ and_call self.old.calls }
         ensures fails { next_fails self.old.calls ≡ true
             → (result ≡ Err Device) × (self.new.inner ≡ self.old.inner) }
         ensures passes { next_fails self.old.calls ≡ false
-            → (I.failed self.old.inner ≤ I.failed self.new.inner)
-            × IfErr result (λ fault. LinkCounts fault (I.failed self.old.inner)
-            (I.failed self.new.inner)) }
+            → MatchResult result (λ _. I.failed self.new.inner ≡ I.failed self.old.inner)
+            (λ fault. I.failed self.new.inner ≡ failures_with (I.failed self.old.inner) fault) }
     {
         if self.calls.next_fails() {
             return Err(LinkFault::Device);
@@ -139,13 +144,15 @@ impl<O: Outlet> Outlet for FailOutlet<O> {
         ensures fault { IfErr result (λ fault. LinkCounts fault
             (failures_of (O.failed self.old.inner) self.old.calls)
             (failures_of (O.failed self.new.inner) self.new.calls)) }
+        ensures taken { OnOk result (failures_of (O.failed self.new.inner) self.new.calls
+            ≡ failures_of (O.failed self.old.inner) self.old.calls) }
         ensures calls { self.new.calls ≡ and_call self.old.calls }
         ensures fails { next_fails self.old.calls ≡ true
             → (result ≡ Err Device) × (self.new.inner ≡ self.old.inner) }
         ensures passes { next_fails self.old.calls ≡ false
             → (O.failed self.old.inner ≤ O.failed self.new.inner)
-            × IfErr result (λ fault. LinkCounts fault (O.failed self.old.inner)
-            (O.failed self.new.inner)) }
+            × MatchResult result (λ _. O.failed self.new.inner ≡ O.failed self.old.inner)
+            (λ fault. LinkCounts fault (O.failed self.old.inner) (O.failed self.new.inner)) }
     {
         let is_lost = self.calls.next_fails();
         if is_lost {

@@ -1,10 +1,10 @@
 //! Links: where the frames of a member go, and where those of the others come from.
 
-ghost use Rattle.std.specs.Prelude.{◌≡◌, ℕ, ◌+◌, ◌≤◌, ◌||◌, IfErr, MatchResult, Some, false, length, true};
+ghost use Rattle.std.specs.Prelude.{◌≡◌, ℕ, ◌≤◌, Err, IfErr, MatchResult, Ok, OnOk, Some, length};
 ghost use Rattle.cb_links.specs.Counts.{Counts, LinkCounts, MetAtMost, held};
-ghost use Rattle.cb_links.specs.Offers.{failures_with, lost_of, nothing_offered, refused_with, with_answer};
+ghost use Rattle.cb_links.specs.Offers.{answer_of, both, failures_with, lost_of, nothing_offered, outcome_of, refused_with, with_answer};
 ghost use Rattle.cb_links.specs.FaultText.{link_fault_text};
-ghost use Rattle.cb_links.specs.declared.link.LinkFault.TheVariants.{NoMemory};
+ghost use Rattle.cb_links.specs.declared.link.LinkFault.TheVariants.{Device, NoMemory};
 
 use bytes::Bytes;
 use cb_history::Outgoing;
@@ -88,7 +88,9 @@ pub trait Inlet {
     fn receive<R: Wait + Clock>(&mut self, rt: &R) -> Result<Received, LinkFault>
         ensures rises { failed self.old ≤ failed self.new }
         ensures fault { IfErr result (λ fault. LinkCounts fault (failed self.old)
-            (failed self.new)) };
+            (failed self.new)) }
+        ensures counted { MatchResult result (λ _. failed self.new ≡ failed self.old)
+            (λ fault. failed self.new ≡ failures_with (failed self.old) fault) };
 
     /// Takes no more frames: those that wait there are dropped, and one that is
     /// sent here from now on is lost. By default nothing is done, for an inlet in which not more
@@ -110,7 +112,9 @@ pub trait WaitingInlet: Inlet {
     ) -> Result<Received, LinkFault>
         ensures rises { Self.failed self.old ≤ Self.failed self.new }
         ensures fault { IfErr result (λ fault. LinkCounts fault (Self.failed self.old)
-            (Self.failed self.new)) };
+            (Self.failed self.new)) }
+        ensures counted { MatchResult result (λ _. Self.failed self.new ≡ Self.failed self.old)
+            (λ fault. Self.failed self.new ≡ failures_with (Self.failed self.old) fault) };
 }
 
 /// Where the frames of a member go.
@@ -127,7 +131,8 @@ pub trait Outlet {
     fn send<R: Wait>(&mut self, rt: &R, out: &Outgoing) -> Result<(), LinkFault>
         ensures rises { failed self.old ≤ failed self.new }
         ensures fault { IfErr result (λ fault. LinkCounts fault (failed self.old)
-            (failed self.new)) };
+            (failed self.new)) }
+        ensures taken { OnOk result (failed self.new ≡ failed self.old) };
 
     /// Sends frames in order, each as `send` does, and counts the faults. An outlet that can take
     /// many at once has a body of its own.
@@ -135,6 +140,7 @@ pub trait Outlet {
         ensures rises { failed self.old ≤ failed self.new }
         ensures offered { result.offered ≡ held (length frames.now) }
         ensures met { MetAtMost result.failures (failed self.old) (failed self.new) }
+        ensures taken { result.failures ≡ 0 → failed self.new ≡ failed self.old }
     {
         let mut unsent = Unsent::none();
         for frame in frames {
@@ -233,7 +239,7 @@ pub struct Offered {
 impl Offered {
     /// It was taken, or there was nobody to offer it to.
     pub fn taken() -> Offered
-        ensures { (result.failures ≡ 0) × (result.refused ≡ false) }
+        ensures { result ≡ outcome_of (Ok tt) }
     {
         Offered {
             failures: 0,
@@ -243,8 +249,7 @@ impl Offered {
 
     /// The outcome of offering it to one member.
     pub fn of(answer: Result<(), LinkFault>) -> Offered
-        ensures { MatchResult answer (λ _. result.failures ≡ 0)
-            (λ fault. result.failures ≡ failures_with 0 fault) }
+        ensures { result ≡ outcome_of answer }
     {
         match answer {
             Ok(()) => Offered::taken(),
@@ -253,9 +258,21 @@ impl Offered {
         }
     }
 
+    /// The outcome of sending it to one member in a datagram: the system takes that whole, or
+    /// refuses it.
+    pub fn of_datagram(sent: io::Result<usize>) -> Offered
+        ensures { MatchResult sent (λ _. result ≡ outcome_of (Ok tt))
+            (λ _. result ≡ outcome_of (Err Device)) }
+    {
+        match sent {
+            Ok(_count) => Offered::taken(),
+            Err(_error) => Offered::failed(),
+        }
+    }
+
     /// It could not be sent to one member.
     pub fn failed() -> Offered
-        ensures { (result.failures ≡ 1) × (result.refused ≡ false) }
+        ensures { result ≡ outcome_of (Err Device) }
     {
         Offered {
             failures: 1,
@@ -265,7 +282,7 @@ impl Offered {
 
     /// Memory was refused for one member.
     pub fn refused() -> Offered
-        ensures { (result.failures ≡ 0) × (result.refused ≡ true) }
+        ensures { result ≡ outcome_of (Err NoMemory) }
     {
         Offered {
             failures: 0,
@@ -275,8 +292,7 @@ impl Offered {
 
     /// Both.
     pub fn and(self, other: Offered) -> Offered
-        ensures failures { result.failures ≡ held (self.failures + other.failures) }
-        ensures refused { result.refused ≡ self.refused || other.refused }
+        ensures { result ≡ both self other }
     {
         Offered {
             failures: self.failures.saturating_add(other.failures),
@@ -286,7 +302,9 @@ impl Offered {
 
     /// A device that failed comes before memory that was refused.
     pub fn result(self) -> Result<(), LinkFault>
-        ensures { IfErr result (λ fault. LinkCounts fault 0 self.failures) }
+        ensures answer { result ≡ answer_of self }
+        ensures fault { IfErr result (λ fault. LinkCounts fault 0 self.failures) }
+        ensures taken { OnOk result (self.failures ≡ 0) }
     {
         if self.failures > 0 {
             Err(LinkFault::Device)

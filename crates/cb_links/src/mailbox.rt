@@ -172,15 +172,28 @@ impl<M: Drop> Mailbox<M> {
         self.reader.gathers.store(false, Ordering::SeqCst);
     }
 
-    /// Sleeps until a message is put in, and at most for so long. A message that is put in while
-    /// the reader falls asleep either is seen by the look or wakes it: each side tells of itself
-    /// before it looks at the other.
+    /// Sleeps until a message is put in, and at most for so long.
     fn sleep<R: Wait>(&self, rt: &R, longest: Duration) -> Taken<M> {
+        self.sleep_between(rt, longest, || self.look(rt))
+    }
+
+    /// Sleeps between two of these looks, where the first finds nothing. A message that is put in
+    /// while the reader falls asleep either is seen by the first look or wakes it: each side tells
+    /// of itself before it looks at the other.
+    pub(crate) fn sleep_between<R: Wait, F: FnMut() -> Taken<M>>(
+        &self,
+        rt: &R,
+        longest: Duration,
+        look: F,
+    ) -> Taken<M>
+        requires { F.IsAlwaysCallable look }
+    {
+        let mut look = look;
         self.reader.sleeps.store(true, Ordering::SeqCst);
-        let taken = match self.look(rt) {
+        let taken = match look() {
             Taken::Nothing => {
                 self.park(rt, longest);
-                self.look(rt)
+                look()
             }
             taken => taken,
         };

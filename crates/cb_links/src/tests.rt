@@ -11,3 +11,4 @@ mod going;
 mod links;
 mod mailbox;
 mod tcp;
+mod wakeups;

@@ -2,7 +2,7 @@
 //!
 //! Each member has a socket to receive on and one to send from, with ports that the system chose.
 
-ghost use Rattle.std.specs.Prelude.{◌≡◌, IfOk, MatchResult, false, length};
+ghost use Rattle.std.specs.Prelude.{◌≡◌, IfOk, length};
 
 use crate::link::{ANY_PORT, Inlet, LinkFault, Offered, Outlet, Received};
 use crate::waits::wait;
@@ -166,16 +166,5 @@ fn offer(socket: &UdpSocket, to: Option<&SocketAddr>, frame: &Bytes) -> Offered 
     let Some(address) = to else {
         return Offered::failed();
     };
-    offered(socket.send_to(frame.as_slice(), *address))
-}
-
-/// The outcome of sending a datagram: the system takes it whole, or refuses it.
-fn offered(sent: io::Result<usize>) -> Offered
-    ensures failures { MatchResult sent (λ _. result.failures ≡ 0) (λ _. result.failures ≡ 1) }
-    ensures refused { result.refused ≡ false }
-{
-    match sent {
-        Ok(_count) => Offered::taken(),
-        Err(_error) => Offered::failed(),
-    }
+    Offered::of_datagram(socket.send_to(frame.as_slice(), *address))
 }

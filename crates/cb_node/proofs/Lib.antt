@@ -4,3 +4,5 @@ pub mod Desks
 pub mod Courses
 pub mod Turns
 pub mod Sending
+pub mod Hearing
+pub mod Asking

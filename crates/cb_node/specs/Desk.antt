@@ -1,20 +1,26 @@
 -- What a kept member has in memory, and what it does in between.
-use Rattle.std.specs.Prelude.{◌≡◌, ℕ, List, ◌++◌, length, take, Option, Some, None, option_map}
-use Rattle.std.specs.List.{flat_map}
+use Rattle.std.specs.Prelude.{◌≡◌, ◌⊎◌, ℕ, nat_lt, Bool, List, [], ◌∷◌, ◌++◌, length, take, Option, Some, None, Result, Ok, Err, option_map}
+use Rattle.std.specs.List.{flat_map, range_with_len}
 use Rattle.std.specs.declared.alloc.Global.{Global}
 use Rattle.std.specs.declared.vec.Vec.{Vec}
+use Rattle.cb_history.specs.declared.answer.ArriveRefusal.{ArriveRefusal}
+use Rattle.cb_history.specs.declared.answer.HelpFault.{HelpFault}
 use Rattle.cb_history.specs.declared.answer.Outgoing.{Outgoing}
+use Rattle.cb_history.specs.declared.answer.Ticked.{Ticked}
 use Rattle.cb_history.specs.declared.history.Entry.{Entry}
 use Rattle.cb_history.specs.Facts.{entry_fields}
 use Rattle.cb_history.specs.Legal.{and_entry}
-use Rattle.cb_history.specs.State.{MemberState, events_in}
+use Rattle.cb_history.specs.State.{HasTicked, MemberState, answer_to_help, events_in}
 use Rattle.cb_member.specs.Received.{HasTakenToSend}
 use Rattle.cb_node.specs.declared.desk.Desk.{Desk}
 use Rattle.cb_node.specs.declared.desk.NotTaken.{NotTaken}
 use Rattle.cb_node.specs.declared.desk.NotTaken.TheVariants as outcomes
+use Rattle.cb_node.specs.declared.fault.TurnFault.{TurnFault}
+use Rattle.cb_node.specs.declared.fault.TurnFault.TheVariants as turns
 use Rattle.cb_journal.specs.declared.keeper.KeepFault.{KeepFault}
 use Rattle.cb_node.specs.Course.{MayRefuse, Work}
-use Rattle.cb_node.specs.Kept.{IsKeptState, KeptState}
+use Rattle.cb_node.specs.Kept.{IsKeptState, KeptState, work_of}
+use Rattle.cb_node.specs.Refusing.{hindrance, with_refusal}
 
 -- lists of frames, one behind the other
 abbrev pub frames_in : List (Vec Outgoing Global) → List Outgoing
@@ -64,3 +70,42 @@ NotTakenBy m bytes fault (outcomes.NotKept kept) = fault ≡ Some kept
 -- nothing but what is to be sent
 abbrev pub IsSameButPost : KeptState → KeptState → Type 0
 IsSameButPost old new = new ≡ record old { post = new.post }
+
+-- they were refused, which was counted, for a reason that hinders a turn so
+pub record RefusesIn (old new : Work) (bytes : List ℕ) (hinders : Option TurnFault) : Type 0 where
+  pub refusal : ArriveRefusal
+  pub may : MayRefuse old.member bytes refusal
+  pub counted : new ≡ record old { refused = with_refusal old.refused refusal }
+  pub hindrance_is : hindrance refusal ≡ hinders
+
+-- Received bytes hindered no turn: they were taken, or dropped and counted.
+abbrev pub HasHeard : Work → Work → List ℕ → Type 0
+HasHeard old new bytes = TakesIn old new bytes ⊎ RefusesIn old new bytes None
+
+-- They did: they were refused and counted, or an entry could not be kept, this one or an earlier one.
+abbrev pub IsHindered : KeptState → KeptState → List ℕ → TurnFault → Type 0
+IsHindered old new bytes turns.HistoryFull = RefusesIn (work_of old) (work_of new) bytes (Some turns.HistoryFull)
+IsHindered old new bytes turns.NoMemory = RefusesIn (work_of old) (work_of new) bytes (Some turns.NoMemory)
+IsHindered old new bytes (turns.NotKept kept) = (work_of new ≡ work_of old) × (new.fault ≡ Some kept)
+
+-- A tick was made, and what it sends is posted. It asks for something where that is more than the status.
+pub record TicksIn (old new : Work) (asks : Bool) : Type 0 where
+  pub ticked : Ticked
+  pub ticks : HasTicked old.member new.member ticked
+  pub post : new.post ≡ old.post ++ ticked.out.items
+  pub refused : new.refused ≡ old.refused
+  pub asks_is : asks ≡ nat_lt 1 (length ticked.out.items)
+
+-- the help frame, where there is one
+abbrev pub frame_of : Result (Option Outgoing) HelpFault → List Outgoing
+frame_of (Ok (Some help)) = help ∷ []
+frame_of (Ok None) = []
+frame_of (Err fault) = []
+
+-- the help frames of this member for the missing casts of these senders
+abbrev pub helps_for : MemberState → List ℕ → List Outgoing
+helps_for m senders = flat_map (λ i. frame_of (answer_to_help m i)) senders
+
+-- for those of each member of the group, in rising order; of its own it lacks none
+abbrev pub helps_of : MemberState → List Outgoing
+helps_of m = helps_for m (range_with_len 0 m.seat.group.size)

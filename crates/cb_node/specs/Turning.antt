@@ -1,15 +1,32 @@
 -- A turn of a node.
-use Rattle.std.specs.Prelude.{◌≡◌, ℕ, ◌+◌, List, [], ◌++◌, length, take, slice_range}
+use Rattle.std.specs.Prelude.{◌≡◌, ℕ, ◌+◌, ◌%◌, ◌≢◌, Bool, List, [], ◌++◌, length, take, slice_range}
 use Rattle.cb_delay.specs.declared.message.Event.{Event}
 use Rattle.cb_history.specs.declared.answer.Outgoing.{Outgoing}
 use Rattle.cb_history.specs.State.{events_in}
+use Rattle.cb_links.specs.declared.link.LinkFault.{LinkFault}
+use Rattle.cb_links.specs.declared.link.LinkFault.TheVariants as faults
+use Rattle.cb_links.specs.declared.link.Unsent.{Unsent}
 use Rattle.cb_links.specs.Counts.{held}
 use Rattle.cb_node.specs.declared.ends.Counts.{Counts}
 use Rattle.cb_node.specs.Course.{Work, Goes}
+use Rattle.cb_node.specs.Desk.{TicksIn, helps_of}
 use Rattle.cb_node.specs.Kept.{KeptState, work_of}
 
 abbrev pub none_counted : Counts
 none_counted = record { offered = 0; send_failures = 0; send_refused = 0; receive_failures = 0; receive_refused = 0 }
+
+-- with what was offered to the link, and what it did not take
+abbrev pub with_unsent : Counts → Unsent → Counts
+with_unsent c unsent = record c {
+  offered = held (c.offered + unsent.offered);
+  send_failures = held (c.send_failures + unsent.failures);
+  send_refused = held (c.send_refused + unsent.refused);
+}
+
+-- with one more fault of what receives
+abbrev pub with_fault : Counts → LinkFault → Counts
+with_fault c faults.Device = record c { receive_failures = held (c.receive_failures + 1) }
+with_fault c faults.NoMemory = record c { receive_refused = held (c.receive_refused + 1) }
 
 -- the events between two places
 abbrev pub between : ℕ → ℕ → List Event → List Event
@@ -36,3 +53,13 @@ pub record HasTurned (old new : KeptState) (before after : ℕ) (handed to : ℕ
   pub nothing_waits : new.post ≡ []
   pub all : to ≡ length (events_in new.kept)
   pub news_are : events_in new.kept ≡ take handed (events_in old.kept) ++ news
+
+-- One more tick was made, the last of so many. Behind each fourth one third members are asked for all that is missing.
+pub record HasMadeTick (old new : Work) (ticks : ℕ) : Type 0 where
+  pub asks : Bool
+  pub ticked : Work
+  pub ticks_in : TicksIn old ticked asks
+  pub asked : List Outgoing
+  pub fourth : ticks % 4 ≡ 0 → asked ≡ helps_of ticked.member
+  pub other : ticks % 4 ≢ 0 → asked ≡ []
+  pub after : new ≡ record ticked { post = ticked.post ++ asked }

@@ -8,10 +8,11 @@ ghost use Rattle.std.specs.Bool.{Decides};
 ghost use Rattle.std.specs.Vec.{vec_capacity, vec_len};
 ghost use Rattle.cb_frames.specs.Fields.{One};
 ghost use Rattle.cb_history.specs.Load.{many_of};
+ghost use Rattle.cb_history.specs.State.{answer_to_help};
 ghost use Rattle.cb_node.specs.Course.{Goes, to_all};
-ghost use Rattle.cb_node.specs.Desk.{IsDesk, IsEntering, IsSameButPost, NotTakenBy, TakesIn, state_in};
+ghost use Rattle.cb_node.specs.Desk.{HasHeard, IsDesk, IsEntering, IsHindered, IsSameButPost, NotTakenBy, TakesIn, TicksIn, frame_of, helps_of, state_in};
 ghost use Rattle.cb_node.specs.Kept.{AreOwnStable, HasNamedBurst, HasNamedCast, KeepsUp, RefusesBurstAt, RefusesCastAt, all_kept, work_of};
-ghost use Rattle.cb_node.specs.Refusing.{none_refused};
+ghost use Rattle.cb_node.specs.Refusing.{HinderNone, hindrance, none_refused};
 
 use crate::fault::{NodeBurstFault, NodeCastFault, TurnFault};
 use crate::named::Named;
@@ -86,6 +87,10 @@ impl Desk {
     pub fn take<K: Keeper>(&mut self, keeper: &mut K, bytes: Bytes) -> Result<(), TurnFault>
         requires { IsDesk self.old }
         ensures desk { IsDesk self.new }
+        ensures heard { OnOk result (HasHeard (work_of (state_in self.old))
+            (work_of (state_in self.new)) bytes) }
+        ensures hindered { IfErr result (IsHindered (state_in self.old) (state_in self.new) bytes) }
+        ensures unhindered { OnOk result (HinderNone self.old.refused self.new.refused) }
         ensures goes { Goes (work_of (state_in self.old)) (work_of (state_in self.new)) }
         ensures keeps { KeepsUp K.has keeper.old keeper.new (state_in self.old)
             (state_in self.new) }
@@ -202,6 +207,9 @@ impl Desk {
     pub fn tick<K: Keeper>(&mut self, keeper: &mut K) -> Result<bool, TurnFault>
         requires { IsDesk self.old }
         ensures desk { IsDesk self.new }
+        ensures ticked { IfOk result (TicksIn (work_of (state_in self.old))
+            (work_of (state_in self.new))) }
+        ensures refused { self.new.refused ≡ self.old.refused }
         ensures goes { Goes (work_of (state_in self.old)) (work_of (state_in self.new)) }
         ensures same { OnErr result (work_of (state_in self.new) ≡ work_of (state_in self.old)) }
         ensures keeps { KeepsUp K.has keeper.old keeper.new (state_in self.old)
@@ -233,6 +241,8 @@ impl Desk {
     pub fn help(&mut self) -> Result<(), TurnFault>
         requires { IsDesk self.old }
         ensures desk { IsDesk self.new }
+        ensures asked { OnOk result ((state_in self.new).post ≡ (state_in self.old).post
+            ++ helps_of (state_in self.old).kept) }
         ensures goes { Goes (work_of (state_in self.old)) (work_of (state_in self.new)) }
         ensures same { IsSameButPost (state_in self.old)
             (state_in self.new) }
@@ -251,6 +261,8 @@ impl Desk {
         requires desk { IsDesk self.old }
         requires alive { self.old.fault ≡ None }
         ensures desk { IsDesk self.new }
+        ensures asked { OnOk result ((state_in self.new).post ≡ (state_in self.old).post
+            ++ frame_of (answer_to_help (state_in self.old).kept sender)) }
         ensures goes { Goes (work_of (state_in self.old)) (work_of (state_in self.new)) }
         ensures same { IsSameButPost (state_in self.old)
             (state_in self.new) }
@@ -333,7 +345,10 @@ pub fn for_all(bytes: Bytes) -> Outgoing
 }
 
 /// What a refusal is to a turn: a full history and want of memory hinder it, all else is dropped.
-fn hindered_by(refusal: ArriveRefusal) -> Result<(), TurnFault> {
+fn hindered_by(refusal: ArriveRefusal) -> Result<(), TurnFault>
+    ensures { MatchResult result (λ _. hindrance refusal ≡ None)
+        (λ fault. hindrance refusal ≡ Some fault) }
+{
     match refusal {
         ArriveRefusal::HistoryFull => Err(TurnFault::HistoryFull),
         ArriveRefusal::NoMemory => Err(TurnFault::NoMemory),

@@ -1,9 +1,8 @@
 //! The two ends of a node's link, and what is counted of them.
 
-ghost use Rattle.std.specs.Prelude.{◌≡◌, ◌+◌, length};
-ghost use Rattle.cb_links.specs.Counts.{held};
+ghost use Rattle.std.specs.Prelude.{◌≡◌, length};
 ghost use Rattle.cb_node.specs.Desk.{frames_in};
-ghost use Rattle.cb_node.specs.Turning.{CountsOn, none_counted};
+ghost use Rattle.cb_node.specs.Turning.{CountsOn, none_counted, with_fault, with_unsent};
 
 use cb_links::{LinkFault, Outlet, Received, Unsent, WAIT, WaitingInlet};
 use cb_member::Outgoing;
@@ -29,7 +28,7 @@ pub struct Counts {
 /// The link of a node.
 #[derive(Drop)]
 pub struct Ends<I, O> {
-    inlet: I,
+    pub inlet: I,
     outlet: O,
     pub counts: Counts,
 }
@@ -98,7 +97,7 @@ impl Counts {
     }
 
     fn and_sent(&mut self, unsent: Unsent)
-        ensures { self.new.offered ≡ held (self.old.offered + unsent.offered) }
+        ensures { self.new ≡ with_unsent self.old unsent }
     {
         self.offered = self.offered.saturating_add(unsent.offered);
         self.send_failures = self.send_failures.saturating_add(unsent.failures);
@@ -106,7 +105,8 @@ impl Counts {
     }
 
     fn and_fault(&mut self, fault: LinkFault)
-        ensures { self.new.offered ≡ self.old.offered }
+        ensures counted { self.new ≡ with_fault self.old fault }
+        ensures offered { self.new.offered ≡ self.old.offered }
     {
         match fault {
             LinkFault::Device => self.receive_failures = self.receive_failures.saturating_add(1),

@@ -1,13 +1,13 @@
 //! A member whose entries are kept before anything is sent of them, with what is to be sent.
 
-ghost use Rattle.std.specs.Prelude.{◌≡◌, ◌≤◌, [], IfErr, IfOk, None, OnErr, map};
+ghost use Rattle.std.specs.Prelude.{◌≡◌, ◌≤◌, ◌++◌, [], IfErr, IfOk, MatchResult, None, OnErr, OnOk};
 ghost use Rattle.std.specs.Bool.{Decides};
 ghost use Rattle.cb_frames.specs.Fields.{One};
 ghost use Rattle.cb_history.specs.Load.{many_of};
 ghost use Rattle.cb_node.specs.Course.{Goes};
-ghost use Rattle.cb_node.specs.Desk.{IsSameButPost, frames_in};
+ghost use Rattle.cb_node.specs.Desk.{HasHeard, IsHindered, IsSameButPost, TicksIn, frames_in, helps_of};
 ghost use Rattle.cb_node.specs.Kept.{AreOwnStable, HasNamedBurst, HasNamedCast, IsKeptState, KeepsUp, RefusesBurstAt, RefusesCastAt, all_kept, work_of};
-ghost use Rattle.cb_node.specs.Refusing.{none_refused};
+ghost use Rattle.cb_node.specs.Refusing.{HinderNone, none_refused};
 
 use crate::desk::Desk;
 use crate::fault::{NodeBurstFault, NodeCastFault, TurnFault};
@@ -108,6 +108,9 @@ impl KeptMember {
 
     /// Takes received bytes. A refusal is counted.
     pub fn take<K: Keeper>(&mut self, keeper: &mut K, bytes: Bytes) -> Result<(), TurnFault>
+        ensures heard { OnOk result (HasHeard (work_of self.old) (work_of self.new) bytes) }
+        ensures hindered { IfErr result (IsHindered self.old self.new bytes) }
+        ensures unhindered { OnOk result (HinderNone self.old.refused self.new.refused) }
         ensures goes { Goes (work_of self.old) (work_of self.new) }
         ensures keeps { KeepsUp K.has keeper.old keeper.new self.old self.new }
         ensures shown { self.old.shown ≤ self.new.shown }
@@ -147,6 +150,9 @@ impl KeptMember {
 
     /// Ticks. Answers whether something is missing, so that it was asked for.
     pub fn tick<K: Keeper>(&mut self, keeper: &mut K) -> Result<bool, TurnFault>
+        ensures ticked { IfOk result (TicksIn (work_of self.old) (work_of self.new)) }
+        ensures same { OnErr result (work_of self.new ≡ work_of self.old) }
+        ensures refused { self.new.refused ≡ self.old.refused }
         ensures goes { Goes (work_of self.old) (work_of self.new) }
         ensures keeps { KeepsUp K.has keeper.old keeper.new self.old self.new }
         ensures shown { self.old.shown ≤ self.new.shown }
@@ -157,6 +163,7 @@ impl KeptMember {
     /// Asks third members for what is missing of each other sender. Where memory is refused the rest
     /// is asked for another time.
     pub fn help(&mut self) -> Result<(), TurnFault>
+        ensures asked { OnOk result (self.new.post ≡ self.old.post ++ helps_of self.old.kept) }
         ensures goes { Goes (work_of self.old) (work_of self.new) }
         ensures same { IsSameButPost self.old self.new }
     {

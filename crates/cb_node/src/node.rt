@@ -1,12 +1,12 @@
 //! A member with its link and its pace.
 
-ghost use Rattle.std.specs.Prelude.{◌≡◌, ◌≤◌, IfErr, IfOk, OnErr, OnOk, None, [], length};
+ghost use Rattle.std.specs.Prelude.{◌≡◌, ◌≤◌, ◌+◌, ◌%◌, ◌^◌, IfErr, IfOk, MatchOption, OnErr, OnOk, None, [], length};
 ghost use Rattle.cb_frames.specs.Fields.{One};
 ghost use Rattle.cb_history.specs.Load.{many_of};
 ghost use Rattle.cb_history.specs.State.{events_in};
 ghost use Rattle.cb_node.specs.Kept.{HasNamedBurst, HasNamedCast, KeepsUp, RefusesBurstAt, RefusesCastAt, all_kept, work_of};
-ghost use Rattle.cb_node.specs.Refusing.{none_refused};
-ghost use Rattle.cb_node.specs.Turning.{HasGone, HasTurned, between, none_counted};
+ghost use Rattle.cb_node.specs.Refusing.{HinderNone, none_refused};
+ghost use Rattle.cb_node.specs.Turning.{HasGone, HasMadeTick, HasTurned, between, none_counted};
 
 use crate::ends::{Counts, Ends};
 use crate::fault::{NodeBurstFault, NodeCastFault, TurnFault};
@@ -109,6 +109,13 @@ impl<I, O, K> Node<I, O, K> {
         self.kept.refused()
     }
 
+    /// Where the frames of the others come from.
+    pub fn inlet(&self) -> &I
+        ensures { result.now ≡ self.now.ends.inlet }
+    {
+        &self.ends.inlet
+    }
+
     /// What was sent and received.
     pub fn counts(&self) -> Counts
         ensures { result ≡ self.now.ends.counts }
@@ -184,6 +191,8 @@ impl<I: WaitingInlet, O: Outlet, K: Keeper> Node<I, O, K> {
             (between self.new.from self.new.to (events_in self.new.kept.member)) }
         ensures keeps { KeepsUp K.has self.old.keeper self.new.keeper self.old.kept self.new.kept }
         ensures alive { OnOk result (self.new.kept.fault ≡ None) }
+        ensures unhindered { OnOk result (HinderNone self.old.kept.refused
+            self.new.kept.refused) }
     {
         // The reading tells the prover which events were there to be handed out.
         let _shown = self.kept.shown();
@@ -202,6 +211,8 @@ impl<I: WaitingInlet, O: Outlet, K: Keeper> Node<I, O, K> {
         ensures keeps { KeepsUp K.has self.old.keeper self.new.keeper self.old.kept self.new.kept }
         ensures shown { self.old.kept.shown ≤ self.new.kept.shown }
         ensures handed { self.new.to ≡ self.old.to }
+        ensures unhindered { OnOk result (HinderNone self.old.kept.refused
+            self.new.kept.refused) }
     {
         self.send(rt);
         let taken = self.listen(rt, longest);
@@ -229,6 +240,8 @@ impl<I: WaitingInlet, O: Outlet, K: Keeper> Node<I, O, K> {
         ensures keeps { KeepsUp K.has self.old.keeper self.new.keeper self.old.kept self.new.kept }
         ensures shown { self.old.kept.shown ≤ self.new.kept.shown }
         ensures handed { self.new.to ≡ self.old.to }
+        ensures unhindered { OnOk result (HinderNone self.old.kept.refused
+            self.new.kept.refused) }
     {
         let rest = self.pacing.rest(now(rt), self.kept.written());
         let mut wait = shorter(longest, rest);
@@ -250,6 +263,8 @@ impl<I: WaitingInlet, O: Outlet, K: Keeper> Node<I, O, K> {
         ensures keeps { KeepsUp K.has self.old.keeper self.new.keeper self.old.kept self.new.kept }
         ensures shown { self.old.kept.shown ≤ self.new.kept.shown }
         ensures handed { self.new.to ≡ self.old.to }
+        ensures unhindered { MatchOption result (self.new.kept ≡ self.old.kept)
+            (λ taken. OnOk taken (HinderNone self.old.kept.refused self.new.kept.refused)) }
     {
         match self.ends.receive(rt, wait) {
             Received::Frame(frame) => Some(self.kept.take(&mut self.keeper, frame)),
@@ -264,6 +279,7 @@ impl<I: WaitingInlet, O: Outlet, K: Keeper> Node<I, O, K> {
         ensures keeps { KeepsUp K.has self.old.keeper self.new.keeper self.old.kept self.new.kept }
         ensures shown { self.old.kept.shown ≤ self.new.kept.shown }
         ensures handed { self.new.to ≡ self.old.to }
+        ensures refused { self.new.kept.refused ≡ self.old.kept.refused }
     {
         let now = now(rt);
         if !self.pacing.rest(now, self.kept.written()).is_zero() {
@@ -279,6 +295,11 @@ impl<I: WaitingInlet, O: Outlet, K: Keeper> Node<I, O, K> {
         ensures keeps { KeepsUp K.has self.old.keeper self.new.keeper self.old.kept self.new.kept }
         ensures shown { self.old.kept.shown ≤ self.new.kept.shown }
         ensures handed { self.new.to ≡ self.old.to }
+        ensures refused { self.new.kept.refused ≡ self.old.kept.refused }
+        ensures ticked { OnOk result (HasMadeTick (work_of self.old.kept) (work_of self.new.kept)
+            self.new.pacing.ticks) }
+        ensures counted { OnOk result (self.new.pacing.ticks
+            ≡ (self.old.pacing.ticks + 1) % 2 ^ 64) }
     {
         let asks = self.kept.tick(&mut self.keeper)?;
         let is_quiet = !asks && self.kept.is_stable();

@@ -1,8 +1,8 @@
 //! How often a node ticks.
 
-ghost use Rattle.std.specs.Prelude.{◌≡◌, ◌-◌, ◌↔◌, IfOk, IsOk, IfSome, MatchOption, Some, codes};
+ghost use Rattle.std.specs.Prelude.{◌≡◌, ◌+◌, ◌%◌, ◌^◌, ◌↔◌, Decides, IfOk, IsOk, Some, codes};
 ghost use Rattle.std.specs.Duration.{as_nanos};
-ghost use Rattle.cb_node.specs.Pacing.{AreBounds};
+ghost use Rattle.cb_node.specs.Pacing.{AreBounds, calm_with, none_made, rest_of, time_between};
 
 use std::error::Error;
 use std::fmt;
@@ -74,7 +74,10 @@ pub struct Pacing {
 }
 
 impl Pacing {
-    pub fn new(bounds: Bounds) -> Pacing {
+    /// No tick was made.
+    pub fn new(bounds: Bounds) -> Pacing
+        ensures { result ≡ none_made bounds }
+    {
         Pacing {
             bounds,
             ticks: 0,
@@ -86,8 +89,14 @@ impl Pacing {
 
     /// How long it is from now to the next tick, where the member has so many entries. Zero where
     /// the tick is due: at first, and where the clock cannot be read.
-    pub fn rest(&self, now: Option<Duration>, entries: usize) -> Duration {
-        let (Some(last), Some(now)) = (self.last, now) else {
+    pub fn rest(&self, now: Option<Duration>, entries: usize) -> Duration
+        ensures { as_nanos result ≡ rest_of self.now.last now
+            (as_nanos (time_between self.now entries)) }
+    {
+        let Some(last) = self.last else {
+            return Duration::ZERO;
+        };
+        let Some(now) = now else {
             return Duration::ZERO;
         };
         self.between(entries)
@@ -96,7 +105,9 @@ impl Pacing {
 
     /// The time between two ticks: the slow one where some ticks found all quiet, and nothing was
     /// entered since.
-    fn between(&self, entries: usize) -> Duration {
+    fn between(&self, entries: usize) -> Duration
+        ensures { result ≡ time_between self.now entries }
+    {
         if self.calm >= CALM_TICKS && self.entries == entries {
             self.bounds.slow
         } else {
@@ -105,13 +116,22 @@ impl Pacing {
     }
 
     /// A tick is tried.
-    pub fn try_at(&mut self, now: Option<Duration>) {
+    pub fn try_at(&mut self, now: Option<Duration>)
+        ensures { self.new ≡ record self.old { last = now } }
+    {
         self.last = now;
     }
 
     /// A tick was made, behind which there are so many entries. Whether third members are to be asked
     /// behind it.
-    pub fn count(&mut self, entries: usize, is_quiet: bool) -> bool {
+    pub fn count(&mut self, entries: usize, is_quiet: bool) -> bool
+        ensures counted { self.new ≡ record self.old {
+          ticks = (self.old.ticks + 1) % 2 ^ 64;
+          entries = entries;
+          calm = calm_with self.old entries is_quiet;
+        } }
+        ensures fourth { Decides result (self.new.ticks % 4 ≡ 0) }
+    {
         self.ticks = self.ticks.wrapping_add(1);
         self.calm = if is_quiet && self.entries == entries {
             self.calm.saturating_add(1)

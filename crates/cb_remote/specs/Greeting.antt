@@ -1,10 +1,16 @@
 -- What comes first on a connection.
-use Rattle.std.specs.Prelude.{◌≡◌, ◌⊎◌, ℕ, ◌<◌, ◌≤◌, List, [], ◌++◌, length, Option, Some, None, Result, Ok, Err}
+use Rattle.std.specs.Prelude.{◌≡◌, ◌⊎◌, ℕ, ◌<◌, ◌≤◌, List, [], ◌++◌, length, Bool, true, Option, Some, None, Result, Ok, Err}
 use Rattle.std.specs.Io.KnownBytes.{Consumes}
 use Rattle.cb_peers.specs.Hellos.{Reads, hello_text}
+use Rattle.cb_peers.specs.declared.hello.Disagreement.{Disagreement}
 use Rattle.cb_peers.specs.declared.hello.Hello.{Hello}
 use Rattle.cb_remote.specs.declared.greeter.GreetFault.{GreetFault}
 use Rattle.cb_remote.specs.declared.greeter.GreetFault.TheVariants as faults
+
+-- both ends agree, or one of them says why not
+abbrev pub agreement : Option Disagreement → Result Bool GreetFault
+agreement None = Ok true
+agreement (Some why) = Err (faults.Disagrees why)
 
 -- bytes were read behind those that came before, and no more than a hello has
 pub record ReadsOn (had has : Option (List ℕ)) (before after : List ℕ) : Type 0 where

@@ -1,2 +1,3 @@
 pub mod Greeting
 pub mod Hearing
+pub mod Offering

@@ -1,6 +1,7 @@
 //! The connections on which frames go to the others.
 
-ghost use Rattle.std.specs.Prelude.{◌≡◌};
+ghost use Rattle.std.specs.Prelude.{◌≡◌, IfOk, map, set};
+ghost use Rattle.cb_remote.specs.Offering.{IsOffered, end_of};
 
 use bytes::Bytes;
 use cb_history::Outgoing;
@@ -26,7 +27,9 @@ enum End {
 
 impl Ends {
     /// No connection with any of the others, who have these addresses.
-    pub fn new(alloc: Global, others: &[Option<SocketAddr>]) -> Result<Ends, AllocError> {
+    pub fn new(alloc: Global, others: &[Option<SocketAddr>]) -> Result<Ends, AllocError>
+        ensures { IfOk result (λ ends. ends.to.items ≡ map end_of others.now) }
+    {
         let mut to = Vec::with_capacity(alloc, others.len())?;
         for address in others {
             to.push(end_at(address))?;
@@ -35,16 +38,20 @@ impl Ends {
     }
 
     /// From now on frames to this member go there.
-    pub fn open(&mut self, member: usize, going: Going<TcpStream>) {
-        if let Some(end) = self.to.get_mut(member) {
-            *end = End::Up(going);
+    pub fn open(&mut self, member: usize, going: Going<TcpStream>)
+        ensures { self.new.to.items ≡ set self.old.to.items member (End.Up going) }
+    {
+        if member < self.to.len() {
+            self.to[member] = End::Up(going);
         }
     }
 
     /// There is no connection with this member any more.
-    pub fn close(&mut self, member: usize) {
-        if let Some(end) = self.to.get_mut(member) {
-            *end = End::Down;
+    pub fn close(&mut self, member: usize)
+        ensures { self.new.to.items ≡ set self.old.to.items member End.Down }
+    {
+        if member < self.to.len() {
+            self.to[member] = End::Down;
         }
     }
 
@@ -84,7 +91,9 @@ impl Ends {
     }
 }
 
-fn end_at(address: &Option<SocketAddr>) -> End {
+fn end_at(address: &Option<SocketAddr>) -> End
+    ensures { result ≡ end_of address.now }
+{
     match address {
         Some(_address) => End::Down,
         None => End::Own,
@@ -93,7 +102,9 @@ fn end_at(address: &Option<SocketAddr>) -> End {
 
 impl End {
     /// Offers the frame to this member, where it is another one.
-    fn offer(&mut self, frame: &Bytes) -> Offered {
+    fn offer(&mut self, frame: &Bytes) -> Offered
+        ensures { IsOffered self.old self.new frame.now result }
+    {
         match self {
             End::Own => Offered::taken(),
             End::Down => Offered::failed(),

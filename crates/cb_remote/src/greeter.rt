@@ -1,6 +1,6 @@
 //! What the two ends of a connection say first.
 
-ghost use Rattle.std.specs.Prelude.{◌≡◌, ◌≤◌, [], IfErr, IfOk, length, take};
+ghost use Rattle.std.specs.Prelude.{◌≡◌, ◌≤◌, [], Decides, IfErr, IfOk, length, take};
 ghost use Rattle.std.specs.Io.KnownBytes.{Consumes};
 ghost use Rattle.cb_peers.specs.Hellos.{hello_text};
 ghost use Rattle.cb_links.specs.Streams.{Writes};
@@ -71,6 +71,7 @@ impl<S: Read + Write + Drop> Greeter<S> {
     pub fn write(&mut self) -> Result<bool, GreetFault>
         ensures written { Writes (S.contents self.old.stream) (S.contents self.new.stream)
             self.old.unsaid.items self.new.unsaid.items }
+        ensures done { IfOk result (λ all. Decides all (self.new.unsaid.items ≡ [])) }
         ensures heard { self.new.heard ≡ self.old.heard }
     {
         if self.unsaid.is_empty() {

@@ -1,8 +1,9 @@
 //! The connection between a member and one other.
 
-ghost use Rattle.std.specs.Prelude.{◌≡◌, IfSome, MatchResult, None, true};
+ghost use Rattle.std.specs.Prelude.{◌≡◌, ◌<◌, Decides, IfOk, MatchResult, OnErr};
 ghost use Rattle.cb_peers.specs.Hellos.{disagreement};
-ghost use Rattle.cb_remote.specs.declared.greeter.GreetFault.TheVariants.{Disagrees};
+ghost use Rattle.cb_peers.specs.Pauses.{none_made, with_failure};
+ghost use Rattle.cb_remote.specs.Greeting.{agreement};
 
 use crate::greeter::{GreetFault, Greeter};
 use bytes::Bytes;
@@ -58,7 +59,14 @@ pub enum Answer {
 
 impl Line {
     /// One that is down.
-    pub fn new(number: u32, address: SocketAddr) -> Line {
+    pub fn new(number: u32, address: SocketAddr) -> Line
+        ensures { result ≡ record {
+          number = number;
+          address = address;
+          attempts = none_made;
+          state = State.Down;
+        } }
+    {
         Line {
             number,
             address,
@@ -68,12 +76,16 @@ impl Line {
     }
 
     /// The number of the other member.
-    pub fn number(&self) -> u32 {
+    pub fn number(&self) -> u32
+        ensures { result ≡ self.now.number }
+    {
         self.number
     }
 
     /// Of two members the one with the smaller number calls.
-    pub fn is_called_by(&self, local: &Local) -> bool {
+    pub fn is_called_by(&self, local: &Local) -> bool
+        ensures { Decides result (local.now.me < self.now.number) }
+    {
         local.me < self.number
     }
 
@@ -165,7 +177,15 @@ impl Line {
         }
     }
 
-    fn not_answered(&mut self, fault: GreetFault, now: u64) -> Answer {
+    /// The call failed, and the next one is made behind a longer pause.
+    fn not_answered(&mut self, fault: GreetFault, now: u64) -> Answer
+        ensures { self.new ≡ record {
+          number = self.old.number;
+          address = self.old.address;
+          attempts = with_failure self.old.attempts now;
+          state = State.Down;
+        } }
+    {
         self.state = State::Down;
         self.attempts.fail(now);
         match fault {
@@ -174,13 +194,17 @@ impl Line {
         }
     }
 
-    /// From now on frames come from this stream, in place of one that was there before. What goes
-    /// there is answered.
+    /// From now on frames come from this stream, in place of one that was there before, and the
+    /// pauses begin anew. What goes there is answered. A fault changes nothing.
     pub fn open(
         &mut self,
         local: &Local,
         stream: TcpStream,
-    ) -> Result<Going<net::TcpStream>, LinkFault> {
+    ) -> Result<Going<net::TcpStream>, LinkFault>
+        ensures pauses { IfOk result (λ _. self.new.attempts ≡ none_made) }
+        ensures same { (self.new.number ≡ self.old.number) × (self.new.address ≡ self.old.address) }
+        ensures refused { OnErr result (self.new ≡ self.old) }
+    {
         let stream = net::TcpStream::from(stream);
         let going = Going::new(local.alloc, stream.try_clone()?)?;
         self.state = State::Up(Coming::new(local.alloc, stream));
@@ -188,8 +212,13 @@ impl Line {
         Ok(going)
     }
 
-    /// The next frame from the other one. A fault ends the connection.
-    pub fn take(&mut self, room: &mut [u8; ROOM], now: u64) -> Result<Option<Bytes>, LinkFault> {
+    /// The next frame from the other one. A fault ends the connection, and is a failed attempt.
+    pub fn take(&mut self, room: &mut [u8; ROOM], now: u64) -> Result<Option<Bytes>, LinkFault>
+        ensures pauses { MatchResult result (λ _. self.new.attempts ≡ self.old.attempts)
+            (λ _. (self.new.attempts ≡ with_failure self.old.attempts now)
+            × (self.new.state ≡ State.Down)) }
+        ensures same { (self.new.number ≡ self.old.number) × (self.new.address ≡ self.old.address) }
+    {
         let State::Up(coming) = &mut self.state else {
             return Ok(None);
         };
@@ -228,8 +257,7 @@ fn heard(
 
 /// Both ends agree.
 pub fn agreed(own: Hello, theirs: Hello) -> Result<bool, GreetFault>
-    ensures { MatchResult result (λ yes. (yes ≡ true) × (disagreement own theirs ≡ None))
-        (λ fault. IfSome (disagreement own theirs) (λ why. fault ≡ Disagrees why)) }
+    ensures { result ≡ agreement (disagreement own theirs) }
 {
     match own.disagreement(theirs) {
         None => Ok(true),

@@ -3,9 +3,7 @@
 //! Of two members the one with the smaller number calls the other one. A connection that is lost is
 //! made again; what was under way on it is lost, and asked for again by the members.
 
-ghost use Rattle.std.specs.Prelude.{◌≡◌, ◌≤◌, IfErr, IfOk, MatchResult, length};
-ghost use Rattle.cb_links.specs.Counts.{LinkCounts};
-ghost use Rattle.cb_links.specs.Offers.{failures_with};
+ghost use Rattle.std.specs.Prelude.{◌≡◌, IfOk, Some, length};
 
 use crate::ends::Ends;
 use crate::greeter::{GreetFault, Greeter};
@@ -362,7 +360,8 @@ impl<N: Net + Drop> TcpPeerInlet<N> {
     }
 
     fn refuse(&mut self, member: Option<u32>, why: Disagreement)
-        ensures { self.new.failures ≡ self.old.failures }
+        ensures refusal { self.new.refusal ≡ Some (record { member = member; why = why }) }
+        ensures failures { self.new.failures ≡ self.old.failures }
     {
         self.refusal = Some(Refusal { member, why });
     }
@@ -433,13 +432,7 @@ impl<N: Net + Drop> WaitingInlet for TcpPeerInlet<N> {
         &mut self,
         rt: &R,
         longest: Duration,
-    ) -> Result<Received, LinkFault>
-        ensures rises { self.old.failures ≤ self.new.failures }
-        ensures fault { IfErr result (λ fault. LinkCounts fault self.old.failures
-            self.new.failures) }
-        ensures counted { MatchResult result (λ _. self.new.failures ≡ self.old.failures)
-            (λ fault. self.new.failures ≡ failures_with self.old.failures fault) }
-    {
+    ) -> Result<Received, LinkFault> {
         let answer = self.next(rt, longest);
         if let Err(fault) = &answer {
             self.failures = and_fault(self.failures, *fault);

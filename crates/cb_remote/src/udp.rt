@@ -2,10 +2,8 @@
 //!
 //! What comes from an address that is no other member's is dropped, and counted.
 
-ghost use Rattle.std.specs.Prelude.{◌≡◌, ◌≤◌, IfErr, IfOk, MatchResult, false};
-ghost use Rattle.cb_links.specs.Counts.{LinkCounts};
+ghost use Rattle.std.specs.Prelude.{◌≡◌, IfOk};
 ghost use Rattle.cb_remote.specs.Hearing.{Hears};
-ghost use Rattle.cb_links.specs.Offers.{failures_with};
 
 use bytes::Bytes;
 use cb_history::Outgoing;
@@ -221,13 +219,7 @@ impl WaitingInlet for UdpPeerInlet {
         &mut self,
         _rt: &R,
         longest: Duration,
-    ) -> Result<Received, LinkFault>
-        ensures rises { self.old.failures ≤ self.new.failures }
-        ensures fault { IfErr result (λ fault. LinkCounts fault self.old.failures
-            self.new.failures) }
-        ensures counted { MatchResult result (λ _. self.new.failures ≡ self.old.failures)
-            (λ fault. self.new.failures ≡ failures_with self.old.failures fault) }
-    {
+    ) -> Result<Received, LinkFault> {
         let answer = self.next(longest);
         if let Err(fault) = &answer {
             self.failures = and_fault(self.failures, *fault);
@@ -272,10 +264,7 @@ impl UdpPeerOutlet {
     }
 }
 
-/// Offers the frame to the member at this address: the system takes it whole, or refuses it.
+/// Offers the frame to the member at this address.
 fn offer(socket: &net::UdpSocket, to: SocketAddr, frame: &Bytes) -> Offered {
-    match socket.send_to(frame.as_slice(), to) {
-        Ok(_count) => Offered::taken(),
-        Err(_error) => Offered::failed(),
-    }
+    Offered::of_datagram(socket.send_to(frame.as_slice(), to))
 }

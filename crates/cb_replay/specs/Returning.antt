@@ -33,6 +33,10 @@ pub record TakesOneMore (old new : ReturningState) (before after : List Event) (
   pub taken : (entries : List EntryFields) → HasTaken entries old → HasTaken (entries ++ e ∷ []) new
   pub events : (entries : List EntryFields) → HasTaken entries old → HasJoined (unlimited old.core.seat entries) (unlimited old.core.seat (entries ++ e ∷ [])) before after
 
+-- so it is with a list that was empty
+abbrev pub TakesOne : ReturningState → ReturningState → EntryFields → Type 0
+TakesOne old new e = (added : List Event) × TakesOneMore old new [] added e
+
 -- no call adds this entry to those that it took, and the number is that behind them; or there was no memory
 abbrev pub RefusesOneMore : ReturningState → EntryFields → ResumeFault → Type 0
 RefusesOneMore r e BadMember = ⊥

@@ -1,11 +1,11 @@
 //! A core comes back by its entries, one by one.
 
-ghost use Rattle.std.specs.Prelude.{◌≡◌, ◌⊎◌, ◌↔◌, ◌≤◌, [], IfErr, IfOk, Err, map};
+ghost use Rattle.std.specs.Prelude.{◌≡◌, ◌⊎◌, ◌↔◌, ◌≤◌, [], IfErr, IfOk, OnOk, Err, map};
 ghost use Rattle.cb_history.specs.Facts.{entry_fields};
 ghost use Rattle.cb_history.specs.LegalHistory.{seat_in};
 ghost use Rattle.cb_replay.specs.declared.fault.ResumeFault.TheVariants.{BadMember, NoMemory};
 ghost use Rattle.cb_replay.specs.Returning.{HasTaken, RefusesOneMore};
-ghost use Rattle.cb_replay.specs.Returning.{SaysCoreResumed, SaysTaken, TakesOneMore};
+ghost use Rattle.cb_replay.specs.Returning.{SaysCoreResumed, SaysTaken, TakesOne, TakesOneMore};
 
 use crate::core_replaying::replay_entry;
 use crate::fault::ResumeFault;
@@ -101,6 +101,7 @@ pub fn resume_core(alloc: Global, history: &History) -> Result<CoreMember, Resum
     Ok(returning.finish())
 }
 
+/// Takes all entries. Of their events none is kept behind the entry that adds them, so that no memory grows with the entries.
 fn take_all(
     alloc: Global,
     returning: Returning,
@@ -112,8 +113,24 @@ fn take_all(
     let mut so_far = returning;
     let mut events = Vec::new(alloc);
     for entry in entries {
-        so_far = so_far.take(alloc, entry, &mut events)?;
-        events.clear();
+        so_far = take_one(alloc, so_far, entry, &mut events)?;
     }
     Ok(so_far)
+}
+
+/// Takes the next entry, whose events nobody wants. The list has its room alone from one entry to the next.
+fn take_one(
+    alloc: Global,
+    returning: Returning,
+    entry: &Entry,
+    events: &mut Vec<Event>,
+) -> Result<Returning, ResumeFault>
+    requires { events.old.items ≡ [] }
+    ensures taken { IfOk result (λ r. TakesOne returning r (entry_fields entry.now)) }
+    ensures refused { IfErr result (RefusesOneMore returning (entry_fields entry.now)) }
+    ensures empty { OnOk result (events.new.items ≡ []) }
+{
+    let taken = returning.take(alloc, entry, events)?;
+    events.clear();
+    Ok(taken)
 }

@@ -4,3 +4,4 @@ pub mod Planning
 pub mod Sending
 pub mod Bundles
 pub mod Helps
+pub mod Posting

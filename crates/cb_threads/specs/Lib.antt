@@ -5,4 +5,5 @@ pub mod Groups
 pub mod Talking
 pub mod Bundles
 pub mod Helps
+pub mod Posting
 pub mod Refusals

@@ -1,9 +1,10 @@
 -- The outcome of what a talker says.
-use Rattle.std.specs.Prelude.{Bool, true, false, Option, Some, None, Ok, Err, if◌then◌else◌}
+use Rattle.std.specs.Prelude.{ℕ, ◌+◌, Bool, true, false, List, Option, Some, None, Ok, Err, is_some, if◌then◌else◌}
 use Rattle.cb_history.specs.declared.answer.CastRefusal.{CastRefusal}
 use Rattle.cb_history.specs.declared.answer.CastRefusal.TheVariants as casts
 use Rattle.cb_history.specs.declared.answer.BurstRefusal.{BurstRefusal}
 use Rattle.cb_history.specs.declared.answer.BurstRefusal.TheVariants as bursts
+use Rattle.cb_links.specs.Counts.{held}
 use Rattle.cb_lock.specs.declared.payloads.Payloads.{Payloads}
 use Rattle.cb_lock.specs.declared.payloads.Payloads.TheVariants as given
 use Rattle.cb_lock.specs.declared.payloads.Tried.{Tried}
@@ -51,13 +52,21 @@ left_by before (tried.One payload (Err refusal)) = if may_pass refusal then Some
 left_by before (tried.Many payloads (Ok done)) = before
 left_by before (tried.Many payloads (Err refusal)) = if burst_may_pass refusal then Some (given.Many payloads) else None
 
+-- the frame that was cast
+abbrev pub frame_by : Tried → Option (List ℕ)
+frame_by (tried.One payload (Ok done)) = Some done.out
+frame_by (tried.One payload (Err refusal)) = None
+frame_by (tried.Many payloads (Ok done)) = Some done.out
+frame_by (tried.Many payloads (Err refusal)) = None
+
 -- it was cast
 abbrev pub is_cast : Tried → Bool
-is_cast (tried.One payload (Ok done)) = true
-is_cast (tried.One payload (Err refusal)) = false
-is_cast (tried.Many payloads (Ok done)) = true
-is_cast (tried.Many payloads (Err refusal)) = false
+is_cast attempt = is_some (frame_by attempt)
 
 -- the turn in which it was tried
 abbrev pub turn_by : Tried → Turn
 turn_by attempt = if is_cast attempt then turns.Done else turns.Idle
+
+-- how many frames were handed to the sender, with that of a cast
+abbrev pub posted_with : ℕ → Tried → ℕ
+posted_with posted attempt = if is_cast attempt then held (posted + 1) else posted

@@ -1,8 +1,8 @@
 //! What comes of a try to cast, and what is to be cast again behind a refusal.
 
-ghost use Rattle.std.specs.Prelude.{◌≡◌, MatchResult, None, Some, false, if◌then◌else◌, true};
+ghost use Rattle.std.specs.Prelude.{◌≡◌, IfOk, MatchResult, None, Some, false, if◌then◌else◌, true};
 ghost use Rattle.cb_lock.specs.declared.payloads.Payloads.TheVariants.{Many, One};
-ghost use Rattle.cb_threads.specs.Talking.{burst_may_pass, is_cast, left_by, may_pass};
+ghost use Rattle.cb_threads.specs.Talking.{burst_may_pass, frame_by, is_cast, left_by, may_pass};
 
 use bytes::Bytes;
 use cb_lock::{Payloads, Tried};
@@ -12,6 +12,7 @@ use cb_member::{BurstRefusal, CastRefusal};
 pub fn outcome(tried: Tried) -> Result<Bytes, Option<Payloads>>
     ensures left { (before : _) → MatchResult result (λ _. left_by before tried ≡ before)
         (λ left. left_by before tried ≡ left) }
+    ensures frame { IfOk result (λ out. frame_by tried ≡ Some out) }
     ensures cast { MatchResult result (λ _. is_cast tried ≡ true) (λ _. is_cast tried ≡ false) }
 {
     match tried {
@@ -20,7 +21,7 @@ pub fn outcome(tried: Tried) -> Result<Bytes, Option<Payloads>>
             Err(refusal) => Err(left_to_cast(payload, refusal)),
         },
         Tried::Many(payloads, answer) => match answer {
-            Ok(done) => Ok(done.out),
+            Ok(burst) => Ok(burst.out),
             Err(refusal) => Err(left_of_burst(payloads, refusal)),
         },
     }

@@ -1,12 +1,13 @@
 //! What a member asks third members for, and how often.
 
-ghost use Rattle.std.specs.Prelude.{◌≡◌, ◌+◌, ◌%◌, ◌^◌, Decides, IfOk};
+ghost use Rattle.std.specs.Prelude.{◌≡◌, ◌≢◌, ◌+◌, ◌%◌, ◌^◌, ◌<◌, Decides, IfOk, Ok};
+ghost use Rattle.cb_history.specs.State.{answer_to_help};
 ghost use Rattle.cb_lock.specs.Calls.{OnSome};
 ghost use Rattle.cb_threads.specs.Helps.{helps_of, is_fourth};
 
 use cb_lock::{Seat, SharedMember};
-use cb_member::{HelpFault, Member, Outgoing};
-use std::alloc::Global;
+use cb_member::{HelpFault, Member, NoMemory, Outgoing};
+use std::alloc::{AllocError, Global};
 use std::sync::Wait;
 use std::sync::ledger::Ledger;
 
@@ -39,29 +40,42 @@ impl Ticks {
 }
 
 /// The frames that ask third members for the missing casts of each other sender, in rising order of
-/// the senders, by one look at the member. `NoMemory` is the only fault.
+/// the senders, by one look at the member. The only fault is out of memory.
 pub fn help_frames<L: Ledger, R: Wait>(
     rt: &R,
     alloc: Global,
     shared: &SharedMember<L>,
     seat: &mut Seat<L>,
-) -> Result<Vec<Outgoing>, HelpFault>
+) -> Result<Vec<Outgoing>, NoMemory>
     ensures { OnSome seat.old (λ m. IfOk result (λ helps. helps.items ≡ helps_of m)) }
 {
     shared.with_state(rt, seat, move |member| helps_of(alloc, member))
 }
 
-fn helps_of(alloc: Global, member: &Member) -> Result<Vec<Outgoing>, HelpFault>
+fn helps_of(alloc: Global, member: &Member) -> Result<Vec<Outgoing>, NoMemory>
     ensures { IfOk result (λ helps. helps.items ≡ helps_of member.now) }
 {
     let seat = member.seat();
     let mut helps = Vec::new(alloc);
     for sender in 0..seat.group().size() {
         if sender != seat.me() {
-            if let Some(help) = member.help(sender)? {
+            if let Some(help) = help_of(member, sender)? {
                 helps.push(help)?;
             }
         }
     }
     Ok(helps)
+}
+
+#[tactic(auto, unfolding(cb_history::specs::Helping::help_answer))]
+fn help_of(member: &Member, sender: u32) -> Result<Option<Outgoing>, NoMemory>
+    requires of_group { sender < member.now.seat.group.size }
+    requires other { sender ≢ member.now.seat.me }
+    ensures asked { IfOk result (λ help. answer_to_help member.now sender ≡ Ok help) }
+{
+    match member.help(sender) {
+        Ok(help) => Ok(help),
+        Err(HelpFault::NoMemory) => Err(AllocError),
+        Err(HelpFault::BadMember) => unreachable!("the sender is another member of the group"),
+    }
 }

@@ -34,12 +34,14 @@ pub fn unstarted<I: Inlet, O: Outlet, P: Pace, T, L: Ledger>(
 }
 
 fn idle<D, L: Ledger>(part: D, seat: Seat<L>) -> Worked<D, L>
-    ensures counts { (result.failures ≡ 0) × (result.lost ≡ 0) × (result.refused ≡ 0) }
+    ensures counts { (result.failures ≡ 0) × (result.lost ≡ 0) × (result.refused ≡ 0)
+        × (result.offered ≡ 0) }
     ensures part { result.part ≡ part }
 {
     Worked {
         part,
         seat,
+        offered: 0,
         lost: 0,
         failures: 0,
         refused: 0,
@@ -74,6 +76,9 @@ pub fn reported<I: Inlet, O: Outlet, P: Pace, T, L: Ledger>(
     ensures failures { (before : Failures)
         → HaveMet I.failed O.failed P.failed before ended
         → TellsFailures I.failed O.failed P.failed before result.0 }
+    ensures posted { result.0.posted ≡ held (count_in ended.receiver (λ w. w.offered)
+        + count_in ended.timer (λ w. w.offered) + count_in ended.speaker (λ w. w.offered)) }
+    ensures offered { result.0.offered ≡ count_in ended.sender (λ w. w.offered) }
     ensures lost { result.0.lost ≡ held (count_in ended.receiver (λ w. w.lost)
         + count_in ended.timer (λ w. w.lost) + count_in ended.speaker (λ w. w.lost)
         + count_in ended.sender (λ w. w.lost)) }
@@ -84,12 +89,15 @@ pub fn reported<I: Inlet, O: Outlet, P: Pace, T, L: Ledger>(
     let timer = hand_back(ended.timer, &mut seats);
     let speaker = hand_back(ended.speaker, &mut seats);
     let sender = hand_back(ended.sender, &mut seats);
+    let posted = all_posted(receiver.offered, timer.offered, speaker.offered);
     let lost = all_lost(receiver.lost, timer.lost, speaker.lost, sender.lost);
     let report = MemberReport {
         casts: 0,
         deliveries: 0,
         entries: 0,
         refused: receiver.refused,
+        posted,
+        offered: sender.offered,
         lost,
         receive_failures: receiver.failures,
         send_failures: sender.failures,
@@ -101,6 +109,13 @@ pub fn reported<I: Inlet, O: Outlet, P: Pace, T, L: Ledger>(
         fault,
     };
     (report, seats)
+}
+
+/// The frames that were handed to the sender by all of the others.
+fn all_posted(receiver: u64, timer: u64, speaker: u64) -> u64
+    ensures { result ≡ held (receiver + timer + speaker) }
+{
+    receiver.saturating_add(timer).saturating_add(speaker)
 }
 
 /// The frames that were lost by all of the workers.
@@ -118,6 +133,7 @@ fn all_lost(receiver: u64, timer: u64, speaker: u64, sender: u64) -> u64
 #[derive(Drop)]
 struct HandedBack<D> {
     part: Option<D>,
+    offered: u64,
     lost: u64,
     failures: u64,
     refused: u64,
@@ -127,6 +143,7 @@ struct HandedBack<D> {
 fn hand_back<D, L: Ledger>(worked: Option<Worked<D, L>>, seats: &mut Vec<Seat<L>>) -> HandedBack<D>
     ensures part { MatchOption worked ((result.part ≡ None) × (result.failures ≡ 0))
         (λ w. (result.part ≡ Some w.part) × (result.failures ≡ w.failures)) }
+    ensures offered { result.offered ≡ count_in worked (λ w. w.offered) }
     ensures lost { result.lost ≡ count_in worked (λ w. w.lost) }
     ensures refused { result.refused ≡ count_in worked (λ w. w.refused) }
     ensures unsent { IfSome worked (λ w. FailuresAreLost w.failures w.lost)
@@ -142,6 +159,7 @@ fn hand_back<D, L: Ledger>(worked: Option<Worked<D, L>>, seats: &mut Vec<Seat<L>
             put(worked.seat, seats);
             HandedBack {
                 part: Some(worked.part),
+                offered: worked.offered,
                 lost: worked.lost,
                 failures: worked.failures,
                 refused: worked.refused,
@@ -149,6 +167,7 @@ fn hand_back<D, L: Ledger>(worked: Option<Worked<D, L>>, seats: &mut Vec<Seat<L>
         }
         None => HandedBack {
             part: None,
+            offered: 0,
             lost: 0,
             failures: 0,
             refused: 0,

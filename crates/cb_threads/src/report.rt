@@ -47,6 +47,10 @@ pub struct MemberReport<I, O, P, T> {
     pub entries: u64,
     /// The arrivals that the member refused, also where it was out of memory.
     pub refused: u64,
+    /// The frames that the workers handed to the sender.
+    pub posted: u64,
+    /// The frames that the sender offered to the outlet.
+    pub offered: u64,
     /// The frames that the workers' channel or the link did not take.
     pub lost: u64,
     /// How often the inlet answered `Device`.

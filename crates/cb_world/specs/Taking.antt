@@ -2,7 +2,7 @@
 use Rattle.std.specs.Prelude.{◌≡◌, ℕ, List, ◌++◌, length, map, slice_get, Some, if◌then◌else◌}
 use Rattle.cb_frames.specs.Fields.{load_bytes}
 use Rattle.cb_history.specs.Legal.{Call, ToCast, ToTick, ToHelp}
-use Rattle.cb_history.specs.State.{MemberState, facts_in, state_after}
+use Rattle.cb_history.specs.State.{MemberState, state_after}
 use Rattle.cb_schedules.specs.Schedule.{Setting, seat_at, Step, CastStep, ArriveStep, TickStep, HelpStep, SentFrame, Asked, Calls, OfNoMember, OfNoFrame, OfNoBytes, are_bytes, handed_over, asked_by, answer_of, frames_sent, sent_by, GroupState, step_after}
 use Rattle.cb_world.specs.declared.outcome.Answer.{Answer}
 use Rattle.cb_world.specs.declared.outcome.Sent.{Sent}
@@ -12,7 +12,7 @@ use Rattle.cb_world.specs.Outcomes.{sent_fields, Reported, NoMemberReported, NoF
 
 -- the member answered the call: it is reported, the member is as after it, and what it sends is sent
 pub record HasAnswered (old new : MemberState) (call : Call) (before after : List SentFrame) (answer : Answer) : Type 0 where
-  pub reported_is : reported answer ≡ reported_by old.seat (facts_in old) (answer_of old.seat old.limit old.entries call)
+  pub reported_is : reported answer ≡ reported_by old.seat old.limit old.entries call
   pub state : new ≡ state_after old call
   pub sent : after ≡ before ++ map (sent_by old.seat.me) (frames_sent (answer_of old.seat old.limit old.entries call))
 

@@ -6,7 +6,7 @@ ghost use Rattle.cb_history.specs.Legal.{longest_history, IsLegal};
 ghost use Rattle.cb_schedules.specs.Headline.{DeliversClosedArrivals, IsCausalBroadcast, TimesTellHappenedBefore};
 ghost use Rattle.cb_schedules.specs.Messages.{stamped_lists};
 ghost use Rattle.cb_schedules.specs.Schedule.{seat_at};
-ghost use Rattle.cb_schedules.specs.SentLaws.{ArrivalsAreWelcome, EventsHaveTimesFromBytes, OneNameSameBytes, StableStandsInEvents};
+ghost use Rattle.cb_schedules.specs.SentLaws.{ArrivalsAreWelcome, EventsHaveTimesFromBytes, OneNameSameBytes, StableOfStandsInEvents, StableStandsInEvents};
 ghost use Rattle.cb_world.specs.Outcomes.{sent_fields, AreOutcomes};
 ghost use Rattle.cb_world.specs.Steps.{step_fields};
 ghost use Rattle.cb_world.specs.World.{and_steps, run_in};
@@ -73,8 +73,9 @@ impl Run {
 ///
 /// Whatever the schedule loses, repeats or reorders: the events are a run of the causal machine. Each member
 /// has delivered just the messages that reached it together with their whole past. The times of any two
-/// messages that were cast, read from the bytes of the frames, compare as happened-before does. And of a
-/// member's messages no more are stable, by its history, than stand in the list of events of each member.
+/// messages that were cast, read from the bytes of the frames, compare as happened-before does. However many
+/// messages of a sender are stable by any member's history, its own or another's, the list of events of each
+/// member has at least that many of them.
 pub fn play(
     alloc: Global,
     group: Group,
@@ -94,6 +95,7 @@ pub fn play(
     ensures delivered { IfOk result (λ run. DeliversClosedArrivals run.setting (run_in run)) }
     ensures times { IfOk result (λ run. TimesTellHappenedBefore run.setting (run_in run)) }
     ensures stable { IfOk result (λ run. StableStandsInEvents run.setting (run_in run)) }
+    ensures stable_of { IfOk result (λ run. StableOfStandsInEvents run.setting (run_in run)) }
 {
     let mut world = match World::new(alloc, group, history_max) {
         Ok(world) => world,

@@ -6,7 +6,7 @@ ghost use Rattle.cb_history.specs.Legal.{longest_history, IsLegal};
 ghost use Rattle.cb_schedules.specs.Headline.{DeliversClosedArrivals, IsCausalBroadcast, TimesTellHappenedBefore};
 ghost use Rattle.cb_schedules.specs.Messages.{stamped_lists};
 ghost use Rattle.cb_schedules.specs.Schedule.{IsSettingOfHistories, seat_at};
-ghost use Rattle.cb_schedules.specs.SentLaws.{ArrivalsAreWelcome, EventsHaveTimesFromBytes, OneNameSameBytes, StableIsDeliveredEverywhere, StableStandsInEvents};
+ghost use Rattle.cb_schedules.specs.SentLaws.{ArrivalsAreWelcome, EventsHaveTimesFromBytes, OneNameSameBytes, StableIsDeliveredEverywhere, StableOfStandsInEvents, StableStandsInEvents};
 ghost use Rattle.cb_schedules.specs.StepLaws.{ListsGoOn};
 ghost use Rattle.cb_world.specs.FaultText.{play_fault_text};
 ghost use Rattle.cb_world.specs.Outcomes.{sent_fields, AreOutcomes};
@@ -125,8 +125,8 @@ impl World {
     /// After it, whatever was lost, repeated or reordered, the events are a run of the causal machine. Each
     /// member has delivered just the messages that reached it together with their whole past. The times of
     /// any two messages that were cast, read from the bytes of the frames, compare as happened-before does.
-    /// And of a member's messages no more are stable, by its history, than stand in the list of events of
-    /// each member.
+    /// However many messages of a sender are stable by any member's history, its own or another's, the list
+    /// of events of each member has at least that many of them.
     ///
     /// All lists go on at their ends: the events by steps of the stamped machine, the frames that were sent by some or none, and the
     /// histories by at most one entry of one member.
@@ -137,6 +137,7 @@ impl World {
         ensures delivered { DeliversClosedArrivals self.new.setting (run_in self.new) }
         ensures times { TimesTellHappenedBefore self.new.setting (run_in self.new) }
         ensures stable { StableStandsInEvents self.new.setting (run_in self.new) }
+        ensures stable_of { StableOfStandsInEvents self.new.setting (run_in self.new) }
         ensures goes_on { ListsGoOn self.old.setting (run_in self.old) (run_in self.new) }
         ensures setting { IsSettingOfHistories self.new.setting }
     {
@@ -172,11 +173,12 @@ impl World {
     }
 
     /// Member j, where the group has it. What it knows to be stable of its own casts, every other member has delivered: nobody misses what
-    /// it trimmed.
+    /// it trimmed. However many messages of a sender it knows to be stable, the list of events of each member has at least that many of them.
     pub fn member(&self, j: u32) -> Option<&Member>
         ensures member { MatchOption result (self.now.setting.group.size ≤ j) (λ member. member.now
             ≡ member_in self.now j) }
         ensures stable { StableIsDeliveredEverywhere self.now.setting (run_in self.now) }
+        ensures stable_of { StableOfStandsInEvents self.now.setting (run_in self.now) }
         ensures setting { IsSettingOfHistories self.now.setting }
     {
         self.members.get(j as usize)

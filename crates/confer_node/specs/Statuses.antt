@@ -51,6 +51,7 @@ status_of (faults.Words error) = words_status (kind_of error)
 status_of faults.NotText = 2
 status_of faults.NoAddress = 2
 status_of faults.NoMember = 2
+status_of faults.NoTick = 2
 status_of faults.NoMemory = 5
 status_of (faults.Journal fault) = journal_status fault
 status_of (faults.Link fault) = link_status fault

@@ -1,9 +1,10 @@
 //! When a run ends.
 
-ghost use Rattle.std.specs.Prelude.{◌≡◌, None, Some, true};
+ghost use Rattle.std.specs.Prelude.{◌≡◌, ◌⊎◌, Err, IfErr, IfOk, IsOk, None, Ok, Some, true};
 ghost use Rattle.confer_node.specs.Ending.{IsSettled};
 ghost use Rattle.confer_node.specs.Statuses.{end_status};
 
+use crate::fault::Fault;
 use cb_member::Member;
 use std::time::Duration;
 
@@ -13,7 +14,8 @@ pub const LINGER: u64 = 2;
 /// How a run ended.
 #[derive(Clone, Copy, Debug, PartialEq, Eq)]
 pub enum Ended {
-    /// All lines are cast, and all that is delivered here is known to be delivered by all.
+    /// All lines are cast, all that is delivered here is known to be delivered by all, and each
+    /// other member was heard.
     Stable,
     /// The time that was given is over before that.
     TimeOver,
@@ -35,7 +37,7 @@ impl Ended {
 #[derive(Clone, Copy, Debug)]
 pub struct Standing {
     pub now: Duration,
-    /// All lines are cast, and all that is delivered here is stable.
+    /// All lines are cast, all that is delivered here is stable, and each other member was heard.
     pub is_done: bool,
     /// How many entries the history has.
     pub entries: usize,
@@ -98,6 +100,17 @@ impl Ending {
         self.done = Some((standing.now, standing.entries));
         false
     }
+}
+
+/// How a run ends whose trace was written, or was not. What ended the run comes first.
+pub fn outcome(ended: Result<Ended, Fault>, written: Result<(), Fault>) -> Result<Ended, Fault>
+    ensures well { IfOk result (λ e. (ended ≡ Ok e) × IsOk written) }
+    ensures fault { IfErr result (λ fault. (ended ≡ Err fault)
+        ⊎ (IsOk ended × (written ≡ Err fault))) }
+{
+    let ended = ended?;
+    written?;
+    Ok(ended)
 }
 
 /// Whether no message waits, and every message that is delivered here is known to be delivered by all.

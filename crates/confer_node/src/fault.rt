@@ -39,6 +39,9 @@ pub enum Fault {
     /// A group has 2 to 64 members, and the member's number is below how many there are.
     #[error("no such member: 2 to 64 times --peer, and --me below how many they are")]
     NoMember,
+    /// A time between two ticks is 1 millisecond to a second.
+    #[error("no such tick: 1 to 1000 milliseconds")]
+    NoTick,
     /// An allocation was refused.
     #[error("out of memory")]
     NoMemory,
@@ -115,7 +118,7 @@ impl Fault {
     {
         match self {
             Fault::Words(error) => words_status(error.kind()),
-            Fault::NotText | Fault::NoAddress | Fault::NoMember => USAGE,
+            Fault::NotText | Fault::NoAddress | Fault::NoMember | Fault::NoTick => USAGE,
             Fault::NoMemory => MEMORY,
             Fault::Journal(fault) => fault.status(),
             Fault::Link(fault) => link_status(*fault),

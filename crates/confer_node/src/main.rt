@@ -1,10 +1,10 @@
 //! `confer_node`: one member of a group for each process, over UDP or TCP.
 //!
 //! It casts each line of standard input, and prints each line that is cast or delivered. `words`
-//! reads the command line, `lines` cuts the input, `shown` has what is printed, `ending` when it
-//! ends, `record` the text of `--trace`, and `journal` the member that comes back by the file of
-//! `--journal`. `session` joins them round a `Node` of `cb_node`, and `input` has the thread that
-//! reads.
+//! reads the command line, `lines` cuts the input, `shown` has what is printed, `meeting` whom the
+//! member has heard, `saying` what is said once, `ending` when it ends, `record` the text of
+//! `--trace`, and `journal` the member that comes back by the file of `--journal`. `session` joins
+//! them round a `Node` of `cb_node`, and `input` has the thread that reads.
 #![tactic(auto)]
 
 mod ending;
@@ -12,8 +12,10 @@ mod fault;
 mod input;
 mod journal;
 mod lines;
+mod meeting;
 mod record;
 mod run;
+mod saying;
 mod session;
 mod shown;
 #[cfg(test)]

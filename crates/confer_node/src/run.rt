@@ -3,19 +3,19 @@
 ghost use Rattle.std.specs.Prelude.{◌≡◌};
 ghost use Rattle.confer_node.specs.Statuses.{status_of};
 
-use crate::ending::{Ended, Ending};
+use crate::ending::{Ended, Ending, outcome};
 use crate::fault::Fault;
 use crate::input;
 use crate::input::Piece;
 use crate::journal::{begin, come_back};
+use crate::meeting::{Guarded, Meeting, Met};
 use crate::record::record_of;
 use crate::session::Session;
 use crate::words::{LinkKind, Order};
 use cb_links::{Outlet, WaitingInlet};
 use cb_member::Member;
-use cb_node::{Bounds, Keeper, NoJournal, Node};
+use cb_node::{Keeper, NoJournal, Node};
 use cb_remote::{Peers, TcpPeers, UdpPeers};
-use confer_text::write_whole;
 use crossbeam_channel::Receiver;
 use std::alloc::Global;
 use std::fs;
@@ -24,13 +24,7 @@ use std::io::{Read, Write};
 use std::net::{Net, TcpListener, TcpStream};
 use std::sync::Wait;
 use std::thread::Threads;
-use std::time::{Clock, Duration};
-
-/// The milliseconds between two ticks while something is missing or not acknowledged.
-const QUICK: u64 = 20;
-
-/// The milliseconds between two ticks while all is quiet.
-const SLOW: u64 = 1_000;
+use std::time::Clock;
 
 /// Says on `errors` what ended the run, and gives its exit status.
 pub fn report<E: Write>(fault: &Fault, errors: &mut E) -> u8
@@ -153,10 +147,10 @@ fn session_of<
         input,
     } = parts;
     let from = input::begin(rt, order.alloc, input)?;
-    let Ok(bounds) = Bounds::new(Duration::from_millis(QUICK), Duration::from_millis(SLOW)) else {
-        unreachable!("20 milliseconds and a second are bounds");
-    };
-    let node = Node::going_on(order.alloc, member, link, bounds, keeper, 0);
+    let (inlet, outlet) = link;
+    let met = Met::new(order.alloc, &member);
+    let link = (Meeting { inlet, met }, outlet);
+    let node = Node::going_on(order.alloc, member, link, order.bounds, keeper, 0);
     Ok(Session::new(order.alloc, node, from, Ending::new(order.patience)))
 }
 
@@ -164,7 +158,7 @@ fn session_of<
 fn finish<
     H: Wait + Clock + Files,
     K: Keeper + Drop,
-    I: WaitingInlet + Drop,
+    I: WaitingInlet + Guarded + Drop,
     O: Outlet + Drop,
     W: Write,
     E: Write,
@@ -182,12 +176,7 @@ fn finish<
         None => Ok(()),
     };
     drop(session);
-    let ended = ended?;
-    written?;
-    if ended == Ended::TimeOver {
-        let _ = write_whole(errors, b"confer_node: the time is over\n");
-    }
-    Ok(ended)
+    outcome(ended, written)
 }
 
 fn write_trace<H: Files>(rt: &H, alloc: Global, path: &str, member: &Member) -> Result<(), Fault> {

@@ -5,6 +5,7 @@ ghost use Rattle.cb_history.specs.Group.{IsIdentity};
 
 use crate::fault::Fault;
 use cb_member::{Group, Identity};
+use cb_node::Bounds;
 use clap::builder::ValueParser;
 use clap::{Arg, ArgAction, ArgMatches, Command, value_parser};
 use std::alloc::{AllocError, Global};
@@ -15,17 +16,20 @@ use std::time::Duration;
 /// The names of the links.
 const LINKS: &[&str] = &["udp", "tcp"];
 
+/// The milliseconds between two ticks while all is quiet.
+const SLOW: u64 = 1_000;
+
 const HELP: &str = "\
 One member of a group for each process. Casts each line of standard input, and prints each line that is cast \
 or delivered as `i.s \"TEXT\"`, where i is who cast it and s its number there. Behind the end of its input it goes \
-on until all is known to be delivered by all, for two seconds more, and ends then.
+on until all is known to be delivered by all and each other member was heard, for two seconds more, and ends then.
 
 Example:
   $ confer_node --me 0 --group 7 --peer 127.0.0.1:4710 --peer 127.0.0.1:4711
 
-Exit status: 0 all was cast and is stable, 1 the time was over before that, 2 the words are refused or help was \
-asked for,
-3 a fault of the input, the output, the journal, the link or the thread that reads, or a full history, 5 out of \
+Exit status: 0 all was cast and is stable, and each other member was heard, 1 the time was over before that,
+2 the words are refused or help was asked for, 3 a fault of the input, the output, the journal, the trace, the \
+link or the thread that reads, or a full history, 5 out of \
 memory.";
 
 /// What carries the frames.
@@ -43,6 +47,8 @@ pub struct Order<'a> {
     /// The addresses of all members, in the order of their numbers.
     pub addresses: Vec<SocketAddr>,
     pub link: LinkKind,
+    /// How often it ticks.
+    pub bounds: Bounds,
     /// Where the journal stands.
     pub journal: Option<&'a str>,
     /// Where the trace goes.
@@ -78,6 +84,7 @@ fn ordered<'a>(alloc: Global, options: &ArgMatches<'a>) -> Result<Order<'a>, Fau
         seat,
         addresses,
         link: link_of(options),
+        bounds: bounds_of(options)?,
         journal: options.get_str("journal"),
         trace: options.get_str("trace"),
         patience: patience_of(options),
@@ -118,6 +125,15 @@ fn link_of(options: &ArgMatches<'_>) -> LinkKind {
     }
 }
 
+/// The time between two ticks that is said, and that while all is quiet.
+fn bounds_of(options: &ArgMatches<'_>) -> Result<Bounds, Fault> {
+    let quick = Duration::from_millis(u64::from(number(options, "tick")?));
+    match Bounds::new(quick, Duration::from_millis(SLOW)) {
+        Ok(bounds) => Ok(bounds),
+        Err(_bad) => Err(Fault::NoTick),
+    }
+}
+
 fn patience_of(options: &ArgMatches<'_>) -> Option<Duration> {
     let seconds = options.get_one::<u32>("for")?;
     Some(Duration::from_secs(u64::from(seconds)))
@@ -140,7 +156,8 @@ fn command<'a>(alloc: Global) -> Result<Command<'a>, AllocError> {
         value_parser!(u32).range(0..=86_400),
         "How long it goes on behind the end of its input at most, 0 to 86400",
     ))?;
-    let linked = timed.arg(link_option(alloc))?;
+    let ticked = timed.arg(tick_option(alloc))?;
+    let linked = ticked.arg(link_option(alloc))?;
     let kept = linked.arg(text_option(alloc, "journal", "FILE").help(
         "Where all that this member does is written before it is sent or printed; it comes back by that",
     ))?;
@@ -202,6 +219,18 @@ fn text_option<'a>(alloc: Global, name: &'a str, unit: &'a str) -> Arg<'a> {
         .long(name)
         .value_name(unit)
         .action(ArgAction::Set)
+}
+
+fn tick_option<'a>(alloc: Global) -> Arg<'a> {
+    number_option(
+        alloc,
+        "tick",
+        "MILLISECONDS",
+        value_parser!(u32).range(1..=1_000),
+        "How far apart ticks are while something is missing or not acknowledged, 1 to 1000; not faster than a round \
+         trip to the others, else what is on its way is sent twice",
+    )
+    .default_value("20")
 }
 
 fn link_option<'a>(alloc: Global) -> Arg<'a> {

@@ -164,6 +164,8 @@ fn report(
         deliveries: 12,
         entries: 13,
         refused: 20,
+        posted: 22,
+        offered: 21,
         lost: 14,
         receive_failures: 15,
         send_failures: 16,

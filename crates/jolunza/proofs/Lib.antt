@@ -1,3 +1,5 @@
 mod Rows
 mod Helping
 mod Journals
+mod Members
+mod Senders

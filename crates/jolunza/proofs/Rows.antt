@@ -1,7 +1,7 @@
 -- The codes as the header has them.
 use Rattle.std.proofs.Common.{◌≡◌, refl}
 use Rattle.std.specs.Prelude.{Ok, Err}
-use Rattle.cb_frames.specs.declared.fault.FrameFault.TheVariants.{Short}
+use Rattle.cb_frames.specs.declared.fault.FrameFault.TheVariants.{Short, NoMemory}
 use Rattle.cb_history.specs.declared.answer.NewFault.TheVariants as news
 use Rattle.cb_history.specs.declared.answer.CastRefusal.TheVariants as casts
 use Rattle.cb_history.specs.declared.answer.BurstRefusal.TheVariants as bursts
@@ -15,7 +15,7 @@ use Rattle.cb_handle.specs.declared.held.PayloadsRefusal.TheVariants as payloads
 use Rattle.cb_handle_journal.specs.declared.fault.LineRefusal.TheVariants as lines
 use Rattle.cb_handle_journal.specs.declared.fault.ResumeFault.TheVariants as resumes
 use Rattle.jolunza.specs.declared.code.TheConstants.{CLOSED, NONE_THERE}
-use Rattle.jolunza.specs.Codes.{open_code, cast_code, burst_code, payloads_code, arrive_code, loaded_code, tick_code, help_code, missing_code, answer_code, resume_code, line_code}
+use Rattle.jolunza.specs.Codes.{open_code, cast_code, burst_code, payloads_code, arrive_code, loaded_code, tick_code, help_code, missing_code, answer_code, resume_code, line_code, frame_code}
 
 done : answer_code cast_code (Ok tt) ≡ 0
 done = refl
@@ -145,3 +145,9 @@ no_line_there = refl
 
 no_memory_for_a_line : line_code lines.NoMemory ≡ 2
 no_memory_for_a_line = refl
+
+no_frame : frame_code Short ≡ 12
+no_frame = refl
+
+no_memory_for_a_frame : frame_code NoMemory ≡ 2
+no_memory_for_a_frame = refl

@@ -1,5 +1,5 @@
 -- What a call by a handle does.
-use Rattle.std.specs.Prelude.{◌≡◌, ◌≢◌, ◌⊎◌, ◌↔◌, ℕ, ◌≤◌, List, length, map, Option, Some, None}
+use Rattle.std.specs.Prelude.{◌≡◌, ◌≢◌, ◌⊎◌, ◌↔◌, ℕ, ◌<◌, ◌≤◌, List, length, map, Option, Some, None}
 use Rattle.cb_frames.specs.Fields.{Load}
 use Rattle.cb_history.specs.declared.answer.CastRefusal.{CastRefusal}
 use Rattle.cb_history.specs.declared.answer.ArriveRefusal.{ArriveRefusal}
@@ -117,6 +117,11 @@ ShowsStable member count held code = OnEach held (λ m. TellsCount (stable_of_in
 
 abbrev pub ShowsAcknowledged : ℕ → ℕ → Held → ℕ → Type 0
 ShowsAcknowledged member count held code = OnEach held (λ m. TellsCount (acknowledged_by_in m member) count code)
+
+-- what is answered of a member of the group; a number that no member has is that of a bad member
+pub record OfMember (member : ℕ) (Shows : Held → ℕ → Type 0) (held : Held) (code : ℕ) : Type 0 where
+  pub shows : member < (seat_held held).group.size → Shows held code
+  pub bad_member : (seat_held held).group.size ≤ member → code ≡ BAD_MEMBER
 
 -- the first message of a member that waits is told, with what it waits for, or none of it waits
 abbrev pub ShowsDelayed : ℕ → Delayed → Held → ℕ → Type 0

@@ -1,5 +1,7 @@
 -- The code of each refusal.
 use Rattle.std.specs.Prelude.{ℕ, Result, Ok, Err}
+use Rattle.cb_frames.specs.declared.fault.FrameFault.{FrameFault}
+use Rattle.cb_frames.specs.declared.fault.FrameFault.TheVariants as frames
 use Rattle.cb_history.specs.declared.answer.NewFault.TheVariants as news
 use Rattle.cb_history.specs.declared.answer.CastRefusal.{CastRefusal}
 use Rattle.cb_history.specs.declared.answer.CastRefusal.TheVariants as casts
@@ -49,6 +51,11 @@ burst_code bursts.NoMemory = NO_MEMORY
 abbrev pub payloads_code : PayloadsRefusal → ℕ
 payloads_code payloads.NotThere = NONE_THERE
 payloads_code (payloads.Refused refusal) = burst_code refusal
+
+-- of bytes that are read for their sender alone
+abbrev pub frame_code : FrameFault → ℕ
+frame_code frames.NoMemory = NO_MEMORY
+frame_code fault = MALFORMED
 
 abbrev pub arrive_code : ArriveRefusal → ℕ
 arrive_code (arrivals.Malformed fault) = MALFORMED

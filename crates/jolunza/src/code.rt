@@ -1,8 +1,9 @@
 //! The codes that the calls answer.
 
 ghost use Rattle.std.specs.Prelude.{◌≡◌};
-ghost use Rattle.jolunza.specs.Codes.{answer_code, open_code, cast_code, burst_code, payloads_code, arrive_code, loaded_code, tick_code, help_code, missing_code, reading_code, resume_code, line_code};
+ghost use Rattle.jolunza.specs.Codes.{answer_code, open_code, cast_code, burst_code, payloads_code, arrive_code, frame_code, loaded_code, tick_code, help_code, missing_code, reading_code, resume_code, line_code};
 
+use cb_frames::FrameFault;
 use cb_handle::{LoadedRefusal, NoneThere, OpenFault, PayloadsRefusal};
 use cb_handle_journal::{LineRefusal, ResumeFault};
 use cb_member::{
@@ -96,6 +97,15 @@ pub fn of_payloads(answer: Result<(), PayloadsRefusal>) -> u32
         Ok(()) => DONE,
         Err(PayloadsRefusal::NotThere) => NONE_THERE,
         Err(PayloadsRefusal::Refused(refusal)) => of_burst(refusal),
+    }
+}
+
+pub fn of_frame(fault: FrameFault) -> u32
+    ensures { result ≡ frame_code fault }
+{
+    match fault {
+        FrameFault::NoMemory => NO_MEMORY,
+        _ => MALFORMED,
     }
 }
 

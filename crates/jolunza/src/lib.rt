@@ -4,7 +4,7 @@
 //! `CLOSED`; after any code but `DONE` the member is as it was, and so is what the call would have filled.
 #![tactic(auto)]
 
-ghost use Rattle.std.specs.Prelude.{◌≡◌, ◌≢◌, None, drop, slice_get};
+ghost use Rattle.std.specs.Prelude.{◌≡◌, ◌≢◌, None, drop, nat_lt, slice_get};
 ghost use Rattle.cb_frames.specs.Fields.{One};
 ghost use Rattle.cb_history.specs.State.{time_in, stable_in};
 ghost use Rattle.cb_member.specs.Readings.{keeps_window_full_in, waiting_in};
@@ -12,19 +12,22 @@ ghost use Rattle.cb_handle.specs.Copies.{copied};
 ghost use Rattle.cb_handle.specs.Frames.{frames_of, ShowsFrame, ShowsFrames};
 ghost use Rattle.cb_handle.specs.Events.{ShowsEvent, ShowsEvents};
 ghost use Rattle.cb_handle.specs.Entries.{ShowsEntry};
-ghost use Rattle.cb_handle.specs.Calling.{OnEach, counts_of, entries_held, events_held};
+ghost use Rattle.cb_handle.specs.Calling.{OnEach, counts_of, entries_held, events_held, seat_held};
 ghost use Rattle.jolunza.specs.declared.code.TheConstants.{DONE};
+ghost use Rattle.jolunza.specs.Senders.{TellsSender};
 ghost use Rattle.jolunza.specs.Calls.{Holds, Resumes, ShowsEntryLine, ShowsHead};
-ghost use Rattle.jolunza.specs.Calls.{Calls, Casts, CastsBurst, Receives, Loads, ReceivesLoaded, ReceivesParts, Ticks, Helps, Reads, IsDone, ShowsAcknowledged, ShowsAt, ShowsDelayed, ShowsMissing, ShowsStable, Opens};
+ghost use Rattle.jolunza.specs.Calls.{Calls, Casts, CastsBurst, Receives, Loads, ReceivesLoaded, ReceivesParts, Ticks, Helps, OfMember, Reads, IsDone, ShowsAcknowledged, ShowsAt, ShowsDelayed, ShowsMissing, ShowsStable, Opens};
 
 mod code;
 mod journal;
+mod origin;
 #[cfg(test)]
 mod tests;
 mod told;
 
-use crate::code::{CLOSED, DONE, NO_MEMORY};
+use crate::code::{BAD_MEMBER, CLOSED, DONE, NO_MEMORY};
 use crate::journal::{Journal, tell_fault, tell_head, tell_line};
+use crate::origin::{Origin, tell_origin};
 use crate::told::{tell_count, tell_delayed, tell_loaded, tell_missing, tell_parts, tell_received};
 use cb_handle::{
     Counts, Delayed, EntryHead, EventHead, FrameHead, Handle, Held, Name, Range, Received, put,
@@ -410,7 +413,7 @@ pub extern "C" fn jolunza_acknowledged_by(
 }
 
 /// Whether another member keeps the window full: of as many of the last own casts as the window is wide it is not known to have
-/// delivered any.
+/// delivered any. A number that no member has is that of a bad member.
 #[unsafe(no_mangle)]
 pub extern "C" fn jolunza_keeps_window_full(
     alloc: Global,
@@ -418,16 +421,28 @@ pub extern "C" fn jolunza_keeps_window_full(
     member: u32,
     full: &mut bool,
 ) -> u32
-    ensures shows { Calls (Reads (IsDone (λ held. OnEach held (λ m. full.new
-        ≡ keeps_window_full_in m member)))) handle.old.held handle.new.held result }
+    ensures shows { Calls (Reads (OfMember member (IsDone (λ held. OnEach held (λ m. full.new
+        ≡ keeps_window_full_in m member))))) handle.old.held handle.new.held result }
     ensures same { result ≢ DONE → full.new ≡ full.old }
 {
     let Some(held) = take(alloc, handle) else {
         return CLOSED;
     };
-    *full = held.keeps_window_full(member);
+    let is_member = has_member(&held, member);
+    let answer = held.keeps_window_full(member);
     put(handle, held);
+    if !is_member {
+        return BAD_MEMBER;
+    }
+    *full = answer;
     DONE
+}
+
+/// Whether the group has a member of this number.
+fn has_member(held: &Held, member: u32) -> bool
+    ensures { result ≡ nat_lt member (seat_held held.now).group.size }
+{
+    member < held.kept.seat().group().size()
 }
 
 /// How many messages wait: they were received and are not delivered.
@@ -445,7 +460,7 @@ pub extern "C" fn jolunza_waiting(alloc: Global, handle: &mut Handle, count: &mu
     DONE
 }
 
-/// The first message of a member that waits, and what it waits for.
+/// The first message of a member that waits, and what it waits for. A number that no member has is that of a bad member.
 #[unsafe(no_mangle)]
 pub extern "C" fn jolunza_waits_for(
     alloc: Global,
@@ -453,15 +468,19 @@ pub extern "C" fn jolunza_waits_for(
     member: u32,
     delayed: &mut Delayed,
 ) -> u32
-    ensures shows { Calls (Reads (ShowsDelayed member delayed.new))
+    ensures shows { Calls (Reads (OfMember member (ShowsDelayed member delayed.new)))
         handle.old.held handle.new.held result }
     ensures same { result ≢ DONE → delayed.new ≡ delayed.old }
 {
     let Some(held) = take(alloc, handle) else {
         return CLOSED;
     };
+    let is_member = has_member(&held, member);
     let answer = held.waits_for(member);
     put(handle, held);
+    if !is_member {
+        return BAD_MEMBER;
+    }
     tell_delayed(answer, delayed)
 }
 
@@ -557,4 +576,19 @@ pub extern "C" fn jolunza_journal_line(
     let answer = journal_line(alloc, &held, index, text);
     put(handle, held);
     tell_line(answer, length)
+}
+
+/// From whom the frame is whose text the bytes are: its group and the member that sends it. It needs no handle.
+#[unsafe(no_mangle)]
+#[tactic(auto, using(crate::proofs::Senders::fills_nothing))]
+pub extern "C" fn jolunza_sender(
+    alloc: Global,
+    bytes: &[u8],
+    group: &mut u32,
+    member: &mut u32,
+) -> u32
+    ensures tells { TellsSender bytes.now group.new member.new result }
+    ensures same { result ≢ DONE → (group.new ≡ group.old) × (member.new ≡ member.old) }
+{
+    tell_origin(Origin::read(alloc, bytes), group, member)
 }

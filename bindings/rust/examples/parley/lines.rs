@@ -165,8 +165,8 @@ fn put_number(mut number: u32, out: &mut Vec<u8>) {
     out.push(number as u8);
 }
 
-/// A number in its shortest spelling, and what is behind it.
-pub fn take_number(bytes: &[u8]) -> Option<(u32, &[u8])> {
+/// A number in its shortest spelling, and what comes after it.
+fn take_number(bytes: &[u8]) -> Option<(u32, &[u8])> {
     let mut number = 0;
     for (place, byte) in bytes.iter().take(5).enumerate() {
         number |= u64::from(byte & 0x7f) << (7 * place);

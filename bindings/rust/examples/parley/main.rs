@@ -18,8 +18,9 @@ mod trace;
 mod words;
 
 use crate::network::Network;
-use crate::notes::{Note, Notes};
+use crate::notes::{Keep, Note, Notes, Nowhere};
 use crate::options::{options_in, Options, USAGE};
+use crate::screen::Screen;
 use crate::session::Session;
 use jolunza::Settings;
 use std::env;
@@ -37,7 +38,7 @@ enum News {
     Frame(SocketAddr, Vec<u8>),
 }
 
-/// So much waits to be taken; what comes then waits in the system, which drops frames, and these are asked for.
+/// At most this much waits to be taken; what comes then waits in the system, which drops frames, and these are asked for.
 const MOST_NEWS: usize = 1024;
 
 fn main() -> ExitCode {
@@ -62,10 +63,8 @@ fn main() -> ExitCode {
 }
 
 fn parley(options: Options) -> io::Result<()> {
-    let mut session = begin(options)?;
     let (news, inbox) = mpsc::sync_channel(MOST_NEWS);
-    let frames = news.clone();
-    session.network.listen(move |from, bytes| frames.send(News::Frame(from, bytes)).is_ok())?;
+    let mut session = begin(options, &news)?;
     thread::spawn(move || read_lines(&news));
     while !session.is_over(Instant::now()) {
         session.pass(Instant::now())?;
@@ -77,27 +76,29 @@ fn parley(options: Options) -> io::Result<()> {
 }
 
 /// The socket comes first. The lock of the notes keeps a second process from the files.
-fn begin(options: Options) -> io::Result<Session> {
+fn begin(options: Options, news: &SyncSender<News>) -> io::Result<Session> {
     let Options { settings, listen, peers, journal: path, chance } = options;
     let network = Network::open(listen, peers, settings.me, chance);
     let network = network.map_err(|fault| io::Error::other(format!("NoSocket: {listen}: {fault}")))?;
-    let (notes, found) = match &path {
-        Some(path) => Notes::open(path, &settings).map(|(notes, found)| (Some(notes), found))?,
-        None => (None, vec![Note::Group(settings.group)]),
+    let (notes, found): (Box<dyn Keep>, _) = match &path {
+        Some(path) => Notes::open(path, &settings).map(|(notes, found)| (Box::new(notes) as _, found))?,
+        None => (Box::new(Nowhere), vec![Note::Group(settings.group)]),
     };
     let Some((Note::Group(first), rest)) = found.split_first() else {
         return Err(io::Error::other("BadJournal: line 2"));
     };
     let settings = Settings { group: *first, ..settings };
-    let mut session = Session::open(&settings, notes, network, Instant::now())?;
+    let frames = news.clone();
+    network.listen(move |from, bytes| frames.send(News::Frame(from, bytes)).is_ok())?;
+    let mut session = Session::open(settings, notes, Box::new(network), Screen::new(), Instant::now())?;
     session.replay(rest)?;
     greet(&session, path.is_some());
     Ok(session)
 }
 
 fn greet(session: &Session, has_journal: bool) {
-    let Settings { group, size, me, .. } = session.state.member.settings();
-    let rest = match session.state.member.counts().entries {
+    let Settings { group, size, me, .. } = session.state.member().settings();
+    let rest = match session.state.member().counts().entries {
         _ if !has_journal => "; no --journal, so that it can't come back when this ends",
         0 => "",
         _ => ", back by its journal",

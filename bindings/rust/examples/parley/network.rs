@@ -1,6 +1,7 @@
 //! Frames over UDP, a datagram for each; some lost and late on purpose, where that was asked for.
 
 use crate::options::Chance;
+use crate::session::Link;
 use jolunza::{Frame, LONGEST_FRAME};
 use std::cmp::Reverse;
 use std::collections::{BTreeMap, BinaryHeap};
@@ -45,27 +46,6 @@ impl Network {
         Ok(Network { socket: UdpSocket::bind(listen)?, peers, chance, dice, held: BinaryHeap::new(), count: 0 })
     }
 
-    /// Whose frames come from this address.
-    pub fn peer_at(&self, address: SocketAddr) -> Option<u32> {
-        self.peers.iter().find(|(_, at)| **at == address).map(|(member, _)| *member)
-    }
-
-    pub fn peers(&self) -> impl Iterator<Item = u32> + '_ {
-        self.peers.keys().copied()
-    }
-
-    /// Sends a frame to whom it is for. Where the system doesn't take it, it is lost: it will be asked for.
-    pub fn send(&mut self, frame: Frame<'_>) {
-        match frame.to {
-            Some(member) => self.send_to(member, frame.bytes),
-            None => {
-                for member in self.peers().collect::<Vec<_>>() {
-                    self.send_to(member, frame.bytes);
-                }
-            }
-        }
-    }
-
     fn send_to(&mut self, member: u32, bytes: &[u8]) {
         let is_lost = self.dice.below(100) < self.chance.drop.into();
         let delay = self.dice.below(self.chance.delay.as_millis() as u64 + 1);
@@ -79,19 +59,6 @@ impl Network {
             let due = Instant::now() + Duration::from_millis(delay);
             self.held.push(Reverse((due, self.count, member, bytes.to_vec())));
         }
-    }
-
-    /// Sends what was held back long enough.
-    pub fn send_due(&mut self, now: Instant) {
-        while self.next_due().is_some_and(|due| due <= now) {
-            if let Some(Reverse((_, _, member, bytes))) = self.held.pop() {
-                let _ = self.socket.send_to(&bytes, self.peers[&member]);
-            }
-        }
-    }
-
-    pub fn next_due(&self) -> Option<Instant> {
-        self.held.peek().map(|Reverse((due, ..))| *due)
     }
 
     /// Takes datagrams in a thread of its own until they are not wanted. One that is too long is cut: it is no frame.
@@ -108,5 +75,35 @@ impl Network {
             }
         });
         Ok(())
+    }
+}
+
+impl Link for Network {
+    fn peers(&self) -> Vec<u32> {
+        self.peers.keys().copied().collect()
+    }
+
+    fn peer_at(&self, address: SocketAddr) -> Option<u32> {
+        self.peers.iter().find(|(_, at)| **at == address).map(|(member, _)| *member)
+    }
+
+    /// A frame that the system doesn't take is lost: another member will ask for it.
+    fn send(&mut self, frame: Frame<'_>) {
+        match frame.to {
+            Some(member) => self.send_to(member, frame.bytes),
+            None => self.peers().into_iter().for_each(|member| self.send_to(member, frame.bytes)),
+        }
+    }
+
+    fn send_due(&mut self, now: Instant) {
+        while self.next_due().is_some_and(|due| due <= now) {
+            if let Some(Reverse((_, _, member, bytes))) = self.held.pop() {
+                let _ = self.socket.send_to(&bytes, self.peers[&member]);
+            }
+        }
+    }
+
+    fn next_due(&self) -> Option<Instant> {
+        self.held.peek().map(|Reverse((due, ..))| *due)
     }
 }

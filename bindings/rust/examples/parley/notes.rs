@@ -3,7 +3,7 @@
 
 use crate::lines::is_room;
 use crate::words::decimal;
-use jolunza::{Journal, JournalFault, Member, Settings};
+use jolunza::{Events, Journal, JournalFault, Member, Output, Refusal, Settings, LONGEST_HISTORY};
 use std::fs::{File, OpenOptions, TryLockError};
 use std::io::{self, Read, Seek, SeekFrom, Write};
 use std::path::{Path, PathBuf};
@@ -35,6 +35,96 @@ impl Note {
             _ => None,
         }
     }
+}
+
+/// The files by which the typed lines and the members' calls outlast the process.
+pub trait Keep {
+    /// The notes are on the disk when this is done.
+    fn write(&mut self, notes: &[Note]) -> io::Result<()>;
+
+    /// The member of a group, which comes back if it can.
+    fn open_member(&self, settings: Settings) -> io::Result<Kept>;
+
+    /// Whether there is a file at all.
+    fn outlasts(&self) -> bool;
+}
+
+/// Nothing outlasts the process.
+#[derive(Debug)]
+pub struct Nowhere;
+
+impl Keep for Nowhere {
+    fn write(&mut self, _notes: &[Note]) -> io::Result<()> {
+        Ok(())
+    }
+
+    fn open_member(&self, settings: Settings) -> io::Result<Kept> {
+        let member = Member::open_with_history(settings, LONGEST_HISTORY);
+        Ok(Kept::InMemory(member.map_err(io::Error::other)?.into()))
+    }
+
+    fn outlasts(&self) -> bool {
+        false
+    }
+}
+
+/// A member, which has its journal in a file where it is to come back. It keeps its history, for `/trace`.
+#[derive(Debug)]
+pub enum Kept {
+    InFile(Box<Journal>),
+    InMemory(Box<Member>),
+}
+
+/// The answer of a call: its fault is that of the journal, which lacks the entry then.
+pub type Answer<'a> = io::Result<Result<Output<'a>, Refusal>>;
+
+impl Kept {
+    pub fn member(&self) -> &Member {
+        match self {
+            Kept::InFile(journal) => journal.member(),
+            Kept::InMemory(member) => member,
+        }
+    }
+
+    /// All events.
+    pub fn events(&mut self) -> Events<'_> {
+        match self {
+            Kept::InFile(journal) => journal.events(..),
+            Kept::InMemory(member) => member.events(..),
+        }
+    }
+
+    pub fn cast(&mut self, payload: &[u8]) -> Answer<'_> {
+        match self {
+            Kept::InFile(journal) => journal.cast(payload).map_err(not_written),
+            Kept::InMemory(member) => Ok(member.cast(payload)),
+        }
+    }
+
+    pub fn cast_burst(&mut self, payloads: &[&[u8]]) -> Answer<'_> {
+        match self {
+            Kept::InFile(journal) => journal.cast_burst(payloads).map_err(not_written),
+            Kept::InMemory(member) => Ok(member.cast_burst(payloads)),
+        }
+    }
+
+    pub fn receive(&mut self, bytes: &[u8]) -> Answer<'_> {
+        match self {
+            Kept::InFile(journal) => journal.receive(bytes).map_err(not_written),
+            Kept::InMemory(member) => Ok(member.receive(bytes)),
+        }
+    }
+
+    pub fn tick(&mut self) -> Answer<'_> {
+        match self {
+            Kept::InFile(journal) => journal.tick().map_err(not_written),
+            Kept::InMemory(member) => Ok(member.tick()),
+        }
+    }
+}
+
+fn not_written(fault: JournalFault) -> io::Error {
+    io::Error::other(format!("NotWritten: the journal: {fault}"))
 }
 
 /// Notes that are open at their end, and locked: one process has them.
@@ -71,29 +161,29 @@ impl Notes {
         Ok((notes, found))
     }
 
-    /// The notes are on the disk when this is done.
-    pub fn write(&mut self, notes: &[Note]) -> io::Result<()> {
-        let lines: String = notes.iter().map(|note| note.text() + "\n").collect();
-        self.file.write_all(lines.as_bytes())?;
-        self.file.sync_data()
-    }
-
     /// Beside the notes a file for each group has the journal of its member.
     fn journal(&self, group: u32) -> PathBuf {
         PathBuf::from(format!("{}.{group}", self.path.display()))
     }
 }
 
-/// A member that comes back by its journal, or begins it; without notes one that does neither.
-pub fn open_member(notes: Option<&Notes>, settings: &Settings) -> io::Result<(Option<Journal>, Member)> {
-    let Some(notes) = notes else {
-        return Ok((None, Member::open(*settings).map_err(io::Error::other)?));
-    };
-    let path = notes.journal(settings.group);
-    match Journal::open(&path, settings) {
-        Ok((journal, member)) => Ok((Some(journal), member)),
-        Err(fault @ JournalFault::InUse) => Err(io::Error::other(format!("InUse: {}: {fault}", path.display()))),
-        Err(fault) => Err(io::Error::other(format!("BadJournal: {}: {fault}", path.display()))),
+impl Keep for Notes {
+    fn write(&mut self, notes: &[Note]) -> io::Result<()> {
+        let lines: String = notes.iter().map(|note| note.text() + "\n").collect();
+        self.file.write_all(lines.as_bytes())?;
+        self.file.sync_data()
+    }
+
+    fn open_member(&self, settings: Settings) -> io::Result<Kept> {
+        match Journal::open_with_history(self.journal(settings.group), settings, LONGEST_HISTORY) {
+            Ok(journal) => Ok(Kept::InFile(journal.into())),
+            Err(fault @ JournalFault::InUse { .. }) => Err(io::Error::other(format!("InUse: {fault}"))),
+            Err(fault) => Err(io::Error::other(format!("BadJournal: {fault}"))),
+        }
+    }
+
+    fn outlasts(&self) -> bool {
+        true
     }
 }
 
@@ -143,7 +233,7 @@ mod tests {
     use std::fs;
     use std::process;
 
-    const SETTINGS: Settings = Settings { group: 7, size: 3, window: 32, me: 1, history_max: 100 };
+    const SETTINGS: Settings = Settings { group: 7, size: 3, window: 32, me: 1 };
 
     const HEAD: &str = "parley 2 member 1 of 3 window 32\n";
 
@@ -188,6 +278,15 @@ mod tests {
         fs::remove_file(&path).unwrap();
     }
 
+    /// This device takes all bytes, and can't be synced.
+    #[test]
+    fn notes_that_are_not_synced_are_not_written() {
+        let device = OpenOptions::new().write(true).open("/dev/null").unwrap();
+        let mut notes = Notes { path: "/dev/null".into(), file: device };
+        notes.file.write_all(b"a").unwrap();
+        assert_eq!(notes.write(&some_notes()).unwrap_err().kind(), io::ErrorKind::InvalidInput);
+    }
+
     #[test]
     fn nobody_else_has_the_notes() {
         let path = file("lock");
@@ -224,9 +323,8 @@ mod tests {
     fn each_group_has_a_journal_of_its_own() {
         let path = file("groups");
         let (notes, _) = Notes::open(&path, &SETTINGS).unwrap();
-        assert!(open_member(None, &SETTINGS).unwrap().0.is_none());
         for group in [7, 8] {
-            open_member(Some(&notes), &Settings { group, ..SETTINGS }).unwrap();
+            notes.open_member(Settings { group, ..SETTINGS }).unwrap();
             let journal = format!("{}.{group}", path.display());
             let head = format!("cbcast 1 group {group} size 3 window 32 member 1\n");
             assert_eq!(fs::read_to_string(&journal).unwrap(), head);
@@ -239,8 +337,8 @@ mod tests {
     fn nobody_else_has_a_journal() {
         let path = file("journal-lock");
         let (notes, _) = Notes::open(&path, &SETTINGS).unwrap();
-        let _held = open_member(Some(&notes), &SETTINGS).unwrap();
-        let fault = open_member(Some(&notes), &SETTINGS).unwrap_err().to_string();
+        let _held = notes.open_member(SETTINGS).unwrap();
+        let fault = notes.open_member(SETTINGS).unwrap_err().to_string();
         let journal = format!("{}.7", path.display());
         assert_eq!(fault, format!("InUse: {journal}: another has the journal open"));
         fs::remove_file(&journal).unwrap();

@@ -1,7 +1,7 @@
 //! The words of the command line.
 
 use crate::words::decimal;
-use jolunza::{Settings, LONGEST_HISTORY, MOST_MEMBERS};
+use jolunza::{Settings, MOST_MEMBERS};
 use std::collections::BTreeMap;
 use std::ffi::OsString;
 use std::net::{SocketAddr, ToSocketAddrs};
@@ -94,9 +94,36 @@ impl Words {
         if numbers.len() < 2 || numbers.len() > MOST_MEMBERS || !numbers.iter().copied().eq(0..numbers.len() as u32) {
             return Err(format!("BadMembers: {numbers:?}; they are 0 to 1 or more, you and each --peer once"));
         }
-        let settings = Settings { group, size: numbers.len() as u32, window: WINDOW, me, history_max: LONGEST_HISTORY };
+        look_at_addresses(listen, &self.peers)?;
+        let settings = Settings { group, size: numbers.len() as u32, window: WINDOW, me };
         Ok(Options { settings, listen, peers: self.peers, journal: self.journal, chance: self.chance })
     }
+}
+
+/// Each member has an address of its own, and all of one kind: a socket sends to no address of the other kind.
+fn look_at_addresses(listen: SocketAddr, peers: &BTreeMap<u32, SocketAddr>) -> Result<(), String> {
+    for (number, address) in peers {
+        if address.is_ipv4() != listen.is_ipv4() {
+            let kind = |address: &SocketAddr| if address.is_ipv4() { "IPv4" } else { "IPv6" };
+            let (own, other) = (kind(&listen), kind(address));
+            return Err(format!(
+                "BadAddress: you listen at {listen}, {own}, and peer {number} is at {address}, {other}"
+            ));
+        }
+        if is_own(*address, listen) {
+            return Err(format!("BadAddress: peer {number} is at {address}, where you listen"));
+        }
+        if let Some((other, _)) = peers.iter().find(|(other, at)| *other < number && *at == address) {
+            return Err(format!("BadAddress: peers {other} and {number} are both at {address}"));
+        }
+    }
+    Ok(())
+}
+
+/// Whether what is sent to this address comes to the listener itself. One that listens everywhere listens at each loopback address.
+fn is_own(address: SocketAddr, listen: SocketAddr) -> bool {
+    let is_everywhere = listen.ip().is_unspecified() && (address.ip().is_loopback() || address.ip().is_unspecified());
+    address.port() == listen.port() && (address.ip() == listen.ip() || is_everywhere)
 }
 
 fn address_in(word: &str) -> Option<SocketAddr> {
@@ -120,6 +147,27 @@ mod tests {
         assert_eq!(options.journal, Some("kept".into()));
         assert_eq!(options.chance, Chance { drop: 30, delay: Duration::from_millis(200), seed: Some(5) });
         assert_eq!(read(line).unwrap().chance, Chance::default());
+    }
+
+    #[test]
+    fn each_member_has_an_address_of_its_own_and_all_are_of_one_kind() {
+        let with = |listen: &str, peers: [&str; 2]| {
+            let [zero, two] = peers;
+            read(&format!("--me 1 --group 7 --listen {listen} --peer 0={zero} --peer 2={two}")).map(drop)
+        };
+        let fault = |text: &str| Err(format!("BadAddress: {text}"));
+        let (zero, one, two) = ("127.0.0.1:7000", "127.0.0.1:7001", "127.0.0.1:7002");
+        assert_eq!(with(one, [zero, zero]), fault("peers 0 and 2 are both at 127.0.0.1:7000"));
+        assert_eq!(with(one, [zero, one]), fault("peer 2 is at 127.0.0.1:7001, where you listen"));
+        assert_eq!(with("0.0.0.0:7001", [zero, one]), fault("peer 2 is at 127.0.0.1:7001, where you listen"));
+        assert_eq!(with("[::]:7001", ["[::1]:7001", "[::1]:7"]), fault("peer 0 is at [::1]:7001, where you listen"));
+        let mixed = "you listen at 127.0.0.1:7001, IPv4, and peer 2 is at [::1]:7002, IPv6";
+        assert_eq!(with(one, [zero, "[::1]:7002"]), fault(mixed));
+        let mixed = "you listen at [::1]:7001, IPv6, and peer 0 is at 127.0.0.1:7000, IPv4";
+        assert_eq!(with("[::1]:7001", [zero, two]), fault(mixed));
+        assert_eq!(with("0.0.0.0:7001", ["10.0.0.1:7001", "10.0.0.2:7001"]), Ok(()), "other machines");
+        assert_eq!(with("[::1]:7001", ["[::1]:7000", "[::1]:7002"]), Ok(()));
+        assert_eq!(with(one, [zero, two]), Ok(()));
     }
 
     #[test]

@@ -13,8 +13,8 @@ impl Session {
         match order_in(line) {
             Err(fault) => self.screen.say(fault),
             Ok(Order::Nothing) => {}
-            Ok(Order::Say(text)) => self.utter(self.state.conference.say(&self.state.room, text))?,
-            Ok(Order::Answer { question, text }) => self.utter(self.state.conference.answer(question, text))?,
+            Ok(Order::Say(text)) => self.utter(self.conference.say(&self.state.room, text))?,
+            Ok(Order::Answer { question, text }) => self.utter(self.conference.answer(question, text))?,
             Ok(Order::Room(name)) => self.change_room(name)?,
             Ok(Order::Who) => self.list_others(now)?,
             Ok(Order::Why) => self.tell_why()?,
@@ -48,7 +48,7 @@ impl Session {
     }
 
     fn list_others(&self, now: Instant) -> io::Result<()> {
-        let lines = self.peers.lines(&self.state.member, now);
+        let lines = self.peers.lines(self.state.member(), now);
         lines.iter().try_for_each(|line| self.screen.put(line))
     }
 
@@ -57,7 +57,7 @@ impl Session {
     }
 
     fn trace(&self, path: &str) -> io::Result<()> {
-        match write_part(path, &self.state.member) {
+        match write_part(path, self.state.member()) {
             Ok(entries) => self.screen.put(format!("{entries} entries in {path}")),
             Err(fault) => {
                 self.screen.say(format!("NoTrace: {path}: {fault}"));
@@ -78,14 +78,13 @@ impl Session {
             self.screen.say(fault);
             return Ok(());
         }
-        self.is_used_up = false;
         self.cast_waiting()
     }
 
     fn said_in_vain(&mut self) -> Vec<Vec<u8>> {
-        let (is_used_up, stable) = (self.is_used_up, self.state.member.stable());
-        let events = self.state.member.events(..);
-        let lost = events.filter(|event| is_used_up && event.is_own && event.name.number > stable);
+        let (is_mute, stable) = (self.is_mute(), self.state.member().stable());
+        let events = self.state.kept.events();
+        let lost = events.filter(|event| is_mute && event.is_own && event.name.number > stable);
         let mut payloads: Vec<Vec<u8>> = lost.map(|event| event.payload.to_vec()).collect();
         payloads.extend(self.state.waiting.iter().cloned());
         payloads.retain(|payload| match Line::read(payload) {

@@ -5,14 +5,20 @@ use std::collections::BTreeMap;
 use std::ops::RangeInclusive;
 use std::time::{Duration, Instant};
 
-/// A member that is heard and that was asked so often for the same cast keeps it no more.
-const ASKED_IN_VAIN: u32 = 100;
+/// A member that is heard and was asked this often for the same cast keeps it no more, or all answers were lost.
+pub const ASKED_IN_VAIN: u32 = 100;
 
 #[derive(Debug, Default)]
 struct Peer {
     heard: Option<Instant>,
     /// The first cast that is missing, and how often it was asked for while its sender was heard.
     asked: Option<(u32, u32)>,
+}
+
+impl Peer {
+    fn is_asked_in_vain(&self) -> bool {
+        self.asked.is_some_and(|(_, count)| count >= ASKED_IN_VAIN)
+    }
 }
 
 #[derive(Debug)]
@@ -29,7 +35,7 @@ impl Peers {
         }
     }
 
-    /// Counts the requests of a tick. Answers who keeps no more what is missing here, when that becomes clear.
+    /// Counts the requests of a tick. Answers who was now asked in vain for what is missing here.
     pub fn ask(&mut self, member: &Member, now: Instant) -> Option<u32> {
         let mut found = None;
         for (number, peer) in &mut self.0 {
@@ -44,6 +50,26 @@ impl Peers {
             }
         }
         found
+    }
+
+    /// Whether something was asked for in vain that is still missing.
+    pub fn lack_something(&self) -> bool {
+        self.0.values().any(Peer::is_asked_in_vain)
+    }
+
+    /// A peer that has sent what it was asked for in vain. It is found once.
+    pub fn came_after_all(&mut self, member: &Member) -> Option<u32> {
+        let came = |number, peer: &Peer| {
+            peer.is_asked_in_vain() && peer.asked.map(|(first, _)| first) != first_missing(member, number)
+        };
+        let (number, peer) = self.0.iter_mut().find(|(number, peer)| came(**number, peer))?;
+        peer.asked = None;
+        Some(*number)
+    }
+
+    /// The member is a new one, of another group: nothing is missing.
+    pub fn begin(&mut self) {
+        self.0.values_mut().for_each(|peer| peer.asked = None);
     }
 
     /// A line for each.
@@ -88,19 +114,27 @@ mod tests {
     use jolunza::Settings;
 
     fn member() -> Member {
-        Member::open(Settings { group: 7, size: 3, window: 4, me: 2, history_max: 100 }).unwrap()
+        Member::open(Settings { group: 7, size: 3, window: 4, me: 2 }).unwrap()
+    }
+
+    fn take(member: &mut Member, frame: &[u8]) {
+        assert!(member.receive(frame).unwrap().is_entered());
     }
 
     #[test]
-    fn who_is_heard_and_asked_in_vain_keeps_no_more_what_is_missing() {
+    fn a_member_that_is_heard_is_asked_in_vain_until_what_is_missing_comes() {
         let (mut member, now) = (member(), Instant::now());
         let mut peers = Peers::new([0, 1].into_iter());
-        member.receive(b"\x11\x07\x00\x02\x00\x00").unwrap();
+        take(&mut member, b"\x11\x07\x00\x02\x00\x00");
         (0..=ASKED_IN_VAIN).for_each(|_| assert_eq!(peers.ask(&member, now), None, "it was not heard"));
         peers.hear(0, now);
         (1..ASKED_IN_VAIN).for_each(|_| assert_eq!(peers.ask(&member, now), None));
         assert_eq!(peers.ask(&member, now), Some(0));
         assert_eq!(peers.ask(&member, now), None, "it is found once");
+        assert_eq!((peers.lack_something(), peers.came_after_all(&member)), (true, None));
+        take(&mut member, b"\x11\x07\x00\x01\x00\x00");
+        assert_eq!((peers.came_after_all(&member), peers.came_after_all(&member)), (Some(0), None));
+        assert!(!peers.lack_something());
     }
 
     #[test]
@@ -108,9 +142,9 @@ mod tests {
         let (mut member, now) = (member(), Instant::now());
         let mut peers = Peers::new([0, 1].into_iter());
         peers.hear(0, now);
-        member.receive(b"\x11\x07\x00\x03\x00\x00").unwrap();
+        take(&mut member, b"\x11\x07\x00\x03\x00\x00");
         (0..ASKED_IN_VAIN).for_each(|_| assert_eq!(peers.ask(&member, now), None));
-        member.receive(b"\x11\x07\x00\x01\x00\x00").unwrap();
+        take(&mut member, b"\x11\x07\x00\x01\x00\x00");
         (0..ASKED_IN_VAIN).for_each(|_| assert_eq!(peers.ask(&member, now), None));
     }
 
@@ -118,8 +152,8 @@ mod tests {
     fn each_other_member_has_a_line() {
         let (mut member, now) = (member(), Instant::now());
         let mut peers = Peers::new([0, 1].into_iter());
-        member.receive(b"\x11\x07\x00\x01\x00\x00").unwrap();
-        member.receive(b"\x11\x07\x00\x03\x00\x00").unwrap();
+        take(&mut member, b"\x11\x07\x00\x01\x00\x00");
+        take(&mut member, b"\x11\x07\x00\x03\x00\x00");
         peers.hear(0, now);
         let lines = peers.lines(&member, now + Duration::from_secs(3));
         assert_eq!(lines, ["0: 1 delivered, 2 missing, silent for 3 s", "1: 0 delivered, not heard yet"]);

@@ -1,12 +1,14 @@
 //! What is shown: lines on standard output, the rest on standard error. A terminal gets colours and a prompt.
 
 use crate::lines::Shown;
-use std::cell::Cell;
+use std::cell::{Cell, RefCell};
 use std::fmt::Display;
 use std::io::{self, IsTerminal, Write};
 
-#[derive(Debug)]
 pub struct Screen {
+    /// Standard output and standard error.
+    out: RefCell<Box<dyn Write>>,
+    err: RefCell<Box<dyn Write>>,
     has_colours: bool,
     has_prompt: bool,
     /// Something was written since the prompt.
@@ -20,7 +22,13 @@ impl Screen {
     pub fn new() -> Screen {
         let has_colours = io::stdout().is_terminal();
         let has_prompt = has_colours && io::stdin().is_terminal();
-        Screen { has_colours, has_prompt, needs_prompt: Cell::new(true) }
+        Screen { has_colours, has_prompt, ..Screen::over(Box::new(io::stdout()), Box::new(io::stderr())) }
+    }
+
+    /// Buffers in place of standard output and standard error, which are no terminal.
+    pub fn over(out: Box<dyn Write>, err: Box<dyn Write>) -> Screen {
+        let (out, err) = (RefCell::new(out), RefCell::new(err));
+        Screen { out, err, has_colours: false, has_prompt: false, needs_prompt: Cell::new(true) }
     }
 
     /// A line of the conference. The sender has a colour of its own, and no character steers the terminal.
@@ -36,12 +44,12 @@ impl Screen {
 
     /// What was asked for.
     pub fn put(&self, text: impl Display) -> io::Result<()> {
-        write_all(io::stdout().lock(), &format!("{}{text}\n", self.clear()))
+        write_all(&self.out, &format!("{}{text}\n", self.clear()))
     }
 
     /// What is wrong, or worth to know. Where it can't be written, all goes on.
     pub fn say(&self, text: impl Display) {
-        let _ = write_all(io::stderr().lock(), &format!("{}parley: {text}\n", self.clear()));
+        let _ = write_all(&self.err, &format!("{}parley: {text}\n", self.clear()));
     }
 
     /// A line was typed, and the cursor stands behind it.
@@ -52,14 +60,14 @@ impl Screen {
     /// Takes what was typed off the terminal, since it comes again as a line of the conference.
     pub fn take_off(&self) -> io::Result<()> {
         if self.has_prompt {
-            write_all(io::stdout().lock(), "\x1b[A\r\x1b[K")?;
+            write_all(&self.out, "\x1b[A\r\x1b[K")?;
         }
         Ok(())
     }
 
     pub fn prompt(&self, room: &str) -> io::Result<()> {
         if self.has_prompt && self.needs_prompt.take() {
-            write_all(io::stdout().lock(), &format!("{CLEAR}{room}> "))?;
+            write_all(&self.out, &format!("{CLEAR}{room}> "))?;
         }
         Ok(())
     }
@@ -74,7 +82,8 @@ impl Screen {
     }
 }
 
-fn write_all(mut out: impl Write, text: &str) -> io::Result<()> {
+fn write_all(out: &RefCell<Box<dyn Write>>, text: &str) -> io::Result<()> {
+    let mut out = out.borrow_mut();
     out.write_all(text.as_bytes())?;
     out.flush()
 }

@@ -249,6 +249,26 @@ fn an_address_in_use_is_named(rt: HostRuntime) {
     drop(first);
 }
 
+/// The inlet meets the end of its connection, and from then on nothing can be sent on it.
+fn is_lost<R: Wait + Clock + Abort, N: Net + Drop>(
+    rt: &R,
+    inlet: &mut TcpPeerInlet<N>,
+    outlet: &mut TcpPeerOutlet,
+    member: u32,
+) {
+    assert!(rt;
+        next(rt, inlet) == Err(LinkFault::Device),
+        "the connection is lost"
+    );
+    let to = Some(member);
+    let bytes = Bytes::from_static(ALL);
+    assert!(rt;
+        outlet.send(rt, &Outgoing { to, bytes }) == Err(LinkFault::Device),
+        "nothing goes there"
+    );
+    assert_eq!(rt; (inlet.failures(), outlet.failures()), (1, 1));
+}
+
 /// The one that is called dies, and comes back.
 #[test]
 fn a_member_that_is_called_comes_back(rt: HostRuntime) {
@@ -258,11 +278,7 @@ fn a_member_that_is_called_comes_back(rt: HostRuntime) {
     meet(&rt, &mut of_0, &mut of_1, (0, 1));
     drop(of_1);
     drop(second);
-    assert!(&rt;
-        next(&rt, &mut of_0) == Err(LinkFault::Device),
-        "it is lost"
-    );
-    assert_eq!(&rt; of_0.failures(), 1);
+    is_lost(&rt, &mut of_0, &mut first, 1);
     let (mut of_1, second) = link(&rt, rt.alloc(), 1, &addresses, 7);
     meet(&rt, &mut of_0, &mut of_1, (0, 1));
     sends(&rt, &mut first, None, ALL);

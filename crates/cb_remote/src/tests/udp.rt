@@ -4,6 +4,8 @@ ghost use Rattle.std.specs.Prelude.{◌≡◌};
 
 use super::places::{at, come, frame, free, is_quiet, peers_of, sends};
 use crate::{MakeFault, UdpPeerInlet, UdpPeerOutlet, UdpPeers};
+use bytes::Bytes;
+use cb_history::Outgoing;
 use cb_links::{Inlet, LinkFault, Outlet, Received, WaitingInlet};
 use std::alloc::Global;
 use std::net::{Net, SocketAddr, UdpSocket};
@@ -114,6 +116,27 @@ fn an_address_of_another_machine_is_named(rt: HostRuntime) {
     ];
     let none = UdpPeers::link(&rt, rt.alloc(), peers_of(&rt, rt.alloc(), 0, &addresses));
     assert!(&rt; none.err() == Some(MakeFault::NoRoute));
+}
+
+/// More than a datagram can carry.
+const TOO_LONG: usize = 70_000;
+
+#[test]
+fn a_datagram_that_the_system_refuses_is_a_failure(rt: HostRuntime) {
+    let addresses = free(&rt, rt.alloc(), 3);
+    let (inlet, mut outlet) = link(&rt, rt.alloc(), 0, &addresses);
+    for (to, failures) in [(Some(1), 1), (None, 3)] {
+        let bytes = Bytes::from_vec(zeros(&rt, rt.alloc(), TOO_LONG)).expect(&rt, "memory");
+        assert!(&rt; outlet.send(&rt, &Outgoing { to, bytes }) == Err(LinkFault::Device));
+        assert_eq!(&rt; outlet.failures(), failures);
+    }
+    drop(inlet);
+}
+
+fn zeros(rt: &impl Abort, alloc: Global, count: usize) -> Vec<u8> {
+    let mut zeros = Vec::new(alloc);
+    zeros.resize(count, 0).expect(rt, "memory");
+    zeros
 }
 
 #[test]

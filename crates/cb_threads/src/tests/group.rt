@@ -3,7 +3,7 @@
 ghost use Rattle.std.specs.Prelude.{◌≡◌};
 
 use super::parts::{Counting, millisecond};
-use super::reports::{hands_all_back, has_delivered, has_run_well};
+use super::reports::{hands_all_back, has_delivered, has_offered_all, has_run_well};
 use crate::{
     ChannelLink, Every, GroupFault, GroupReport, Inlet, Limits, MemberReport, Outlet, Pace,
     TcpLink, UdpLink, run_group,
@@ -69,6 +69,7 @@ fn all_delivered<I, O, P>(rt: &impl Abort, ran: &GroupReport<I, O, P, Counting>)
     for report in ran.reports.iter() {
         has_delivered(rt, report);
         has_run_well(rt, report);
+        has_offered_all(rt, report);
         hands_all_back(rt, report);
         has_seen_all(rt, report);
     }

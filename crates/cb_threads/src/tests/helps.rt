@@ -4,7 +4,7 @@ ghost use Rattle.std.specs.Prelude.{◌≡◌};
 
 use super::naps::desk;
 use super::parts::{Counting, Hasty, millisecond};
-use super::reports::{hands_all_back, has_delivered, has_run_well};
+use super::reports::{hands_all_back, has_delivered, has_offered_all, has_run_well};
 use crate::workers::{Job, Ticking, Worker};
 use crate::{
     ChannelLink, Every, GroupReport, Limits, LinkFault, MemberReport, Outlet, Stop, run_group,
@@ -142,6 +142,7 @@ fn all_delivered(rt: &impl Abort, ran: &Ran) {
     for report in ran.reports.iter() {
         has_delivered(rt, report);
         has_run_well(rt, report);
+        has_offered_all(rt, report);
         hands_all_back(rt, report);
         assert_eq!(rt; seen_by(report), Some(6));
     }

@@ -1,7 +1,7 @@
 //! Parts for tests: what waits for others, talks a little, or fails at a call.
 
-ghost use Rattle.std.specs.Prelude.{◌≡◌, ◌≤◌, false};
-ghost use Rattle.cb_links.specs.Counts.{HasCounted};
+ghost use Rattle.std.specs.Prelude.{◌≡◌, ◌+◌, ◌≤◌, OnFalse, OnTrue, false};
+ghost use Rattle.cb_links.specs.Counts.{HasCounted, held};
 
 use crate::{Every, Inlet, LinkFault, Outlet, Pace, PaceFault, Received, Talk, Talker};
 use cb_member::{Event, NoMemory, Outgoing};
@@ -69,6 +69,8 @@ impl<'a> Meeting<'a> {
     fn call(&mut self) -> bool
         ensures rises { self.old.failures ≤ self.new.failures }
         ensures counted { result ≡ false → HasCounted self.old.failures self.new.failures }
+        ensures fails { OnFalse result (self.new.failures ≡ held (self.old.failures + 1)) }
+        ensures meets { OnTrue result (self.new.failures ≡ self.old.failures) }
     {
         if self.called {
             return true;

@@ -60,5 +60,5 @@ fn frames_that_the_channel_does_not_take_are_lost(rt: HostRuntime) {
         let bytes = Bytes::from_static(b"yo");
         post.put(&rt, Outgoing { to: None, bytes });
     }
-    assert_eq!(&rt; post.lost(), 3);
+    assert_eq!(&rt; (post.offered, post.lost), (3, 3));
 }

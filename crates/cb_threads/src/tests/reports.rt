@@ -9,6 +9,12 @@ pub fn has_delivered<I, O, P, T>(rt: &impl Abort, report: &MemberReport<I, O, P,
     assert_eq!(rt; (report.casts, report.deliveries), (2, 4));
 }
 
+/// Each frame that the workers handed to the sender was offered to the outlet.
+pub fn has_offered_all<I, O, P, T>(rt: &impl Abort, report: &MemberReport<I, O, P, T>) {
+    assert!(rt; report.posted > 0);
+    assert_eq!(rt; report.posted, report.offered);
+}
+
 pub fn has_run_well<I, O, P, T>(rt: &impl Abort, report: &MemberReport<I, O, P, T>) {
     assert_eq!(rt; report.pace_failures, 0);
     assert!(rt; report.fault.is_none());

@@ -27,7 +27,7 @@ fn all_frames_that_wait_are_sent_in_order(rt: HostRuntime) {
     let (mut inlet, outlet) = links.pop().expect(&rt, "a link");
     let (unread, from) = links.pop().expect(&rt, "a link");
     let counts = work::<Brand, _>(&rt, rt.alloc(), Blank::new(4), from);
-    assert_eq!(&rt; counts, (0, 0));
+    assert_eq!(&rt; counts, (200, 0, 0));
     assert_eq!(&rt; in_order(&rt, &mut inlet), WAITING);
     drop(outlet);
     drop(unread);
@@ -52,7 +52,7 @@ fn work<L: Ledger + Send + Sync, R: Wait + Clock + Abort>(
     alloc: Global,
     blank: Blank,
     outlet: ChannelOutlet,
-) -> (u64, u64)
+) -> (u64, u64, u64)
     requires { (blank.name ≡ L.name) × (blank.parts ≡ L.parts) × (blank.parts ≡ 4) }
 {
     let group = Group::new(7, 2, 4).expect(rt, "a group");
@@ -69,12 +69,12 @@ fn send<L: Ledger + Send + Sync, R: Wait + Clock + Abort>(
     shared: &SharedMember<L>,
     seat: Seat<L>,
     part: ChannelOutlet,
-) -> (u64, u64) {
+) -> (u64, u64, u64) {
     let stop = Stop::new();
     let desk = desk(alloc, shared, &stop, 7);
     let end = waiting(rt, alloc);
     let worked = Worker { part, seat, end }.run(rt, &desk);
-    let counts = (worked.lost, worked.failures);
+    let counts = (worked.offered, worked.lost, worked.failures);
     drop(worked);
     counts
 }

@@ -32,7 +32,9 @@ pub struct Worker<D, E, L: Ledger> {
 pub struct Worked<D, L: Ledger> {
     pub part: D,
     pub seat: Seat<L>,
-    /// The frames that were lost between the workers, or that the outlet did not take.
+    /// The frames that it handed to the sender, or offered to the outlet.
+    pub offered: u64,
+    /// Those of them that the workers' channel, or the outlet, did not take.
     pub lost: u64,
     /// How often what it worked with failed.
     pub failures: u64,

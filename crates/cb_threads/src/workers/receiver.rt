@@ -1,6 +1,8 @@
 //! The worker that takes what is received.
 
 ghost use Rattle.std.specs.Prelude.{◌≡◌};
+ghost use Rattle.cb_lock.specs.Calls.{OnSome};
+ghost use Rattle.cb_threads.specs.Posting.{ReceivesAndPosts};
 
 use crate::limits::Ending;
 use crate::workers::turns::{Failed, Place, Role, Turn};
@@ -53,13 +55,17 @@ impl<I: Inlet + Send + Drop> Role for Receiving<I> {
 impl<'a, L: Ledger> Place<'a, L> {
     /// A frame arrives, and what is sent in answer goes to the sender. One that is refused is
     /// dropped, as if it were lost on the way.
-    fn receive<R: Wait>(&mut self, rt: &R, frame: Bytes) -> Turn {
-        let Ok(out) = self.desk.shared.receive(rt, &mut self.seat, frame) else {
-            return Turn::Refused;
-        };
-        if !out.is_empty() {
-            self.post.put_all(rt, out);
+    #[tactic(auto, using(crate::proofs::Posting::receives, crate::proofs::Posting::receives_none))]
+    fn receive<R: Wait>(&mut self, rt: &R, frame: Bytes) -> Turn
+        ensures { OnSome self.old.seat (λ m. ReceivesAndPosts m self.old.seat self.new.seat
+            frame self.old.post.offered self.new.post.offered result) }
+    {
+        match self.desk.shared.receive(rt, &mut self.seat, frame) {
+            Ok(out) => {
+                self.post.put_all(rt, out);
+                Turn::Done
+            }
+            Err(_refusal) => Turn::Refused,
         }
-        Turn::Done
     }
 }

@@ -3,7 +3,7 @@
 ghost use Rattle.std.specs.Prelude.{◌≡◌, ◌+◌, IfOk, MatchResult, drop};
 ghost use Rattle.cb_history.specs.State.{events_in};
 ghost use Rattle.cb_links.specs.Counts.{held};
-ghost use Rattle.cb_threads.specs.Talking.{cast_of, left_by, turn_by, turn_of};
+ghost use Rattle.cb_threads.specs.Talking.{cast_of, left_by, posted_with, turn_by, turn_of};
 
 use crate::again::outcome;
 use crate::limits::Ending;
@@ -173,6 +173,7 @@ impl<T: Talker> Talking<T> {
     ) -> Turn
         ensures waiting { self.new.waiting ≡ left_by self.old.waiting tried }
         ensures turn { result ≡ turn_by tried }
+        ensures posted { place.new.post.offered ≡ posted_with place.old.post.offered tried }
     {
         match outcome(tried) {
             Ok(out) => {

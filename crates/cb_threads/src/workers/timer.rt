@@ -1,6 +1,8 @@
 //! The worker that ticks, and asks third members for what others do not send.
 
 ghost use Rattle.std.specs.Prelude.{◌≡◌};
+ghost use Rattle.cb_lock.specs.Calls.{OnSome};
+ghost use Rattle.cb_threads.specs.Posting.{PostsHelps, TicksAndPosts};
 
 use crate::asking::{Ticks, help_frames};
 use crate::limits::Ending;
@@ -59,7 +61,11 @@ impl<P> Ticking<P> {
 
 impl<'a, L: Ledger> Place<'a, L> {
     /// Ticks, and sends what the tick puts out. Whether the tick was made.
-    fn tick<R: Wait>(&mut self, rt: &R) -> bool {
+    #[tactic(auto, using(crate::proofs::Posting::ticks, crate::proofs::Posting::ticks_none))]
+    fn tick<R: Wait>(&mut self, rt: &R) -> bool
+        ensures { OnSome self.old.seat (λ m. TicksAndPosts m self.old.seat self.new.seat
+            self.old.post.offered self.new.post.offered result) }
+    {
         match self.desk.shared.tick(rt, &mut self.seat) {
             Ok(ticked) => {
                 self.post.put_all(rt, ticked.out);
@@ -70,7 +76,11 @@ impl<'a, L: Ledger> Place<'a, L> {
     }
 
     /// Sends the help frames. Where memory is refused none is sent.
-    fn help<R: Wait>(&mut self, rt: &R) {
+    #[tactic(auto, using(crate::proofs::Posting::posts_helps, crate::proofs::Posting::posts_none))]
+    fn help<R: Wait>(&mut self, rt: &R)
+        ensures { OnSome self.old.seat (λ m. PostsHelps m self.old.post.offered
+            self.new.post.offered) }
+    {
         let desk = self.desk;
         if let Ok(helps) = help_frames(rt, desk.alloc, desk.shared, &mut self.seat) {
             self.post.put_all(rt, helps);

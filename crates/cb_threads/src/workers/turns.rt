@@ -150,13 +150,14 @@ impl<'a, L: Ledger> Place<'a, L> {
         ensures part { result.part ≡ part }
         ensures failures { result.failures ≡ course.failures }
         ensures refused { result.refused ≡ course.refused }
+        ensures offered { result.offered ≡ self.entry.post.offered }
         ensures lost { result.lost ≡ self.entry.post.lost }
     {
-        let lost = self.post.lost();
         Worked {
             part,
             seat: self.seat,
-            lost,
+            offered: self.post.offered,
+            lost: self.post.lost,
             failures: course.failures,
             refused: course.refused,
         }

@@ -3,6 +3,7 @@
 use crate::run::{report, run};
 use crate::words::{LinkKind, Order};
 use cb_member::{Group, Identity};
+use cb_node::Bounds;
 use std::alloc::Global;
 use std::fs;
 use std::net::{Net, SocketAddr, UdpSocket};
@@ -21,16 +22,23 @@ fn addresses<R: Net + Abort>(rt: &R, alloc: Global) -> Vec<SocketAddr> {
     addresses
 }
 
-/// Member 0 of two with this journal, whose time is over at once behind its input.
-fn order<R: Net + Abort>(rt: &R, alloc: Global, journal: &'static str) -> Order<'static> {
+/// Member 0 of two with these files, whose time is over at once behind its input.
+fn order<R: Net + Abort>(
+    rt: &R,
+    alloc: Global,
+    journal: Option<&'static str>,
+    trace: Option<&'static str>,
+) -> Order<'static> {
     let group = Group::new(7, 2, 4).expect(rt, "a group");
+    let bounds = Bounds::new(Duration::from_millis(10), Duration::from_secs(1));
     Order {
         alloc,
         seat: Identity::new(group, 0).expect(rt, "a member"),
         addresses: addresses(rt, alloc),
         link: LinkKind::Udp,
-        journal: Some(journal),
-        trace: None,
+        bounds: bounds.expect(rt, "bounds"),
+        journal,
+        trace,
         patience: Some(Duration::ZERO),
     }
 }
@@ -39,7 +47,7 @@ fn order<R: Net + Abort>(rt: &R, alloc: Global, journal: &'static str) -> Order<
 fn who_comes_back_prints_all_again(rt: HostRuntime) {
     let path = "again.journal";
     let _ = fs::remove_file(&rt, path);
-    let order = order(&rt, rt.alloc(), path);
+    let order = order(&rt, rt.alloc(), Some(path), None);
     let mut said = Vec::new(rt.alloc());
     let mut first = Vec::new(rt.alloc());
     let begun = run(&rt, &order, b"one\n".as_slice(), &mut first, &mut said);
@@ -51,17 +59,43 @@ fn who_comes_back_prints_all_again(rt: HostRuntime) {
     assert!(&rt; second.as_slice() == b"0.1 \"one\"\n0.2 \"two\"\n".as_slice());
 }
 
+/// The journal, the trace, what is printed and what is said.
+type Run = (
+    Option<&'static str>,
+    Option<&'static str>,
+    &'static str,
+    &'static str,
+);
+
+const WITHOUT_FILES: &[Run] = &[
+    (
+        Some("no such folder/a.journal"),
+        None,
+        "",
+        "confer_node: no journal: NotOpened\n",
+    ),
+    (
+        None,
+        Some("no such folder/a.trace"),
+        "0.1 \"one\"\n",
+        "confer_node: the time is over\nconfer_node: member 1 was not heard\nconfer_node: the trace is not written\n",
+    ),
+];
+
 #[test]
-fn a_run_without_its_journal_ends_with_status_3(rt: HostRuntime) {
-    let order = order(&rt, rt.alloc(), "no such folder/a.journal");
-    let mut printed = Vec::new(rt.alloc());
-    let mut said = Vec::new(rt.alloc());
-    let ended = run(&rt, &order, b"one\n".as_slice(), &mut printed, &mut said);
-    let status = match ended {
-        Ok(ended) => ended.status(),
-        Err(fault) => report(&fault, &mut said),
-    };
-    assert_eq!(&rt; status, 3);
-    assert!(&rt; printed.is_empty());
-    assert!(&rt; said.as_slice() == b"confer_node: no journal: NotOpened\n".as_slice());
+fn a_run_without_its_files_ends_with_status_3(rt: HostRuntime) {
+    for (journal, trace, shown, said_then) in WITHOUT_FILES {
+        let order = order(&rt, rt.alloc(), *journal, *trace);
+        let mut printed = Vec::new(rt.alloc());
+        let mut said = Vec::new(rt.alloc());
+        let ended = run(&rt, &order, b"one\n".as_slice(), &mut printed, &mut said);
+        let status = match ended {
+            Ok(ended) => ended.status(),
+            Err(fault) => report(&fault, &mut said),
+        };
+        let is_shown = printed.as_slice() == shown.as_bytes();
+        let is_said = said.as_slice() == said_then.as_bytes();
+        drop(order);
+        assert_eq!(&rt; (status, is_shown, is_said), (3, true, true));
+    }
 }

@@ -2,7 +2,8 @@
 
 use crate::ending::{Ended, Ending};
 use crate::fault::Fault;
-use crate::input::Piece;
+use crate::input::{Piece, hand_on};
+use crate::meeting::{Guarded, Meeting, Met};
 use crate::record::record_of;
 use crate::session::Session;
 use bytes::Bytes;
@@ -16,10 +17,15 @@ use confer_text::LinesFault;
 use crossbeam_channel::{Receiver, bounded};
 use std::alloc::Global;
 use std::io;
-use std::io::{ErrorKind, Write};
+use std::io::{ErrorKind, Read, Write};
 use std::process::Abort;
 use std::sync::Wait;
+use std::sync::atomic::{AtomicU64, Ordering};
 use std::time::{Clock, Duration};
+
+impl Guarded for Silent {}
+
+impl Guarded for ChannelInlet {}
 
 /// An inlet to which nothing comes.
 #[derive(Drop)]
@@ -89,9 +95,13 @@ fn session(
     let bounds = Bounds::new(Duration::from_millis(10), Duration::from_secs(1)).expect(
         rt, "bounds",
     );
-    let node = Node::new(alloc, member, (Silent, Nowhere), bounds, NoJournal);
+    let inlet = meeting(alloc, &member, Silent);
+    let node = Node::new(alloc, member, (inlet, Nowhere), bounds, NoJournal);
     Session::new(alloc, node, from, Ending::new(Some(Duration::ZERO)))
 }
+
+/// What is said where the time is over and nobody came.
+const ALONE: &str = "confer_node: the time is over\nconfer_node: member 1 was not heard\n";
 
 #[test]
 fn lines_are_cast_and_printed_as_far_as_the_window_goes(rt: HostRuntime) {
@@ -103,7 +113,7 @@ fn lines_are_cast_and_printed_as_far_as_the_window_goes(rt: HostRuntime) {
     let ended = session.run(&rt, &mut printed, &mut said);
     assert!(&rt; matches!(ended, Ok(Ended::TimeOver)));
     assert!(&rt; printed.as_slice() == b"0.1 \"hi\"\n0.2 x07\n".as_slice());
-    assert!(&rt; said.is_empty());
+    assert!(&rt; said.as_slice() == ALONE.as_bytes());
     let text = record_of(alloc, session.member()).expect(&rt, "memory");
     let journal = read_journal(alloc, &text).expect(&rt, "a journal");
     assert_eq!(&rt; journal.history.me, 0);
@@ -125,9 +135,33 @@ fn a_line_that_is_too_long_is_said_and_left_out(rt: HostRuntime) {
     let ended = session.run(&rt, &mut printed, &mut said);
     assert!(&rt; matches!(ended, Ok(Ended::TimeOver)));
     assert!(&rt; printed.as_slice() == b"0.1 \"hi\"\n".as_slice());
-    assert!(&rt;
-        said.as_slice() == b"confer_node: a line of more than 1024 bytes is left out\n".as_slice()
-    );
+    assert!(&rt; said.as_slice() == LEFT_OUT.as_bytes());
+}
+
+const LEFT_OUT: &str = "confer_node: a line of more than 1024 bytes is left out
+confer_node: the time is over
+confer_node: member 1 was not heard
+";
+
+/// An input that fails.
+#[derive(Drop)]
+struct Broken;
+
+impl Read for Broken {
+    fn read(&mut self, _room: &mut [u8]) -> io::Result<usize> {
+        Err(ErrorKind::PermissionDenied.into())
+    }
+}
+
+#[test]
+fn a_read_that_fails_is_no_end(rt: HostRuntime) {
+    let alloc = rt.alloc();
+    let (to, from) = bounded(alloc, 2).expect(&rt, "memory");
+    hand_on(&rt, alloc, Broken, &to);
+    let piece = from.try_recv(&rt);
+    drop(to);
+    drop(from);
+    assert!(&rt; matches!(piece, Ok(Piece::Failed(LinesFault::Read))));
 }
 
 #[test]
@@ -173,6 +207,11 @@ impl Device for Small {
     }
 }
 
+fn meeting<I>(alloc: Global, member: &Member, inlet: I) -> Meeting<I> {
+    let met = Met::new(alloc, member);
+    Meeting { inlet, met }
+}
+
 type Link = (ChannelInlet, ChannelOutlet);
 
 /// The links of members 0 and 1.
@@ -196,6 +235,7 @@ fn session_on(
     let journal = journal.expect(rt, "it begins");
     let hour = Duration::from_secs(3_600);
     let bounds = Bounds::new(hour, hour).expect(rt, "bounds");
+    let link = (meeting(alloc, &member, link.0), link.1);
     let node = Node::new(alloc, member, link, bounds, journal);
     Session::new(alloc, node, from, Ending::new(Some(Duration::ZERO)))
 }
@@ -278,5 +318,89 @@ fn of_an_arrival_that_is_not_written_nothing_is_shown(rt: HostRuntime) {
         let did = done(&rt, rt.alloc(), room, &[], &[frame]);
         let is_printed = did.printed.as_slice() == printed.as_bytes();
         assert_eq!(&rt; (did.status, is_printed, did.sent), (status, true, sent));
+    }
+}
+
+/// A runtime whose clock is half a second later each time that it is read.
+#[derive(Drop)]
+struct Fast<'a, R: Wait + Clock> {
+    rt: &'a R,
+    reads: AtomicU64,
+}
+
+impl<'a, R: Wait + Clock> Wait for Fast<'a, R> {}
+
+impl<'a, R: Wait + Clock> Clock for Fast<'a, R> {
+    fn monotonic(&self) -> io::Result<Duration> {
+        let reads = self.reads.fetch_add(1, Ordering::SeqCst);
+        Ok(Duration::from_millis(reads.saturating_mul(500)))
+    }
+
+    fn since_1970(&self) -> io::Result<Duration> {
+        self.rt.since_1970()
+    }
+
+    fn sleep(&self, _duration: Duration) {}
+}
+
+/// A member of two whose input is at its end, and to which these frames came. Its status in the end,
+/// and what it says.
+fn end(rt: &(impl Abort + Wait + Clock), alloc: Global, frames: &[&'static [u8]]) -> (u8, Vec<u8>) {
+    let (own, other) = links(rt, alloc);
+    let (_inlet, mut outlet) = other;
+    for frame in frames {
+        let bytes = Bytes::from_static(*frame);
+        assert!(rt; outlet.send(rt, &Outgoing { to: None, bytes }).is_ok());
+    }
+    let member = member(rt, alloc);
+    let link = (meeting(alloc, &member, own.0), own.1);
+    let bounds = Bounds::new(Duration::from_millis(10), Duration::from_secs(1)).expect(
+        rt, "bounds",
+    );
+    let node = Node::new(alloc, member, link, bounds, NoJournal);
+    let patience = Some(Duration::from_secs(10));
+    let mut session = Session::new(alloc, node, input(rt, alloc, &[]), Ending::new(patience));
+    let fast = Fast {
+        rt,
+        reads: AtomicU64::new(0),
+    };
+    let mut said = Vec::new(alloc);
+    let status = match session.run(&fast, &mut Vec::new(alloc), &mut said) {
+        Ok(ended) => ended.status(),
+        Err(fault) => fault.status(),
+    };
+    drop(session);
+    drop(outlet);
+    (status, said)
+}
+
+const OTHER_GROUP: &str = "confer_node: frames of another group come, and are dropped
+confer_node: the time is over
+confer_node: member 1 was not heard
+";
+
+const IMPOSSIBLE: &str =
+    "confer_node: frames say of this member what it never did, and are dropped: was it here before, without a journal?
+confer_node: the time is over
+confer_node: member 1 was not heard
+";
+
+/// Statuses of zeros, of member 1 and in group 8, a cast of its own that it never made, and no frame.
+#[test]
+fn a_member_ends_well_only_where_it_has_heard_the_others(rt: HostRuntime) {
+    let status = b"\x12\x07\x01\x00".as_slice();
+    let other_group = b"\x12\x08\x01\x00".as_slice();
+    let impossible = b"\x11\x07\x00\x01\x00\x02hi".as_slice();
+    let table = [
+        (b"\x00".as_slice(), 1, ALONE),
+        (status, 0, ""),
+        (other_group, 1, OTHER_GROUP),
+        (impossible, 1, IMPOSSIBLE),
+    ];
+    for (frame, wanted, text) in table {
+        let (status, said) = end(&rt, rt.alloc(), &[frame, frame]);
+        let is_said = said.as_slice() == text.as_bytes();
+        drop(said);
+        assert_eq!(&rt; (status, is_said), (wanted, true));
     }
 }

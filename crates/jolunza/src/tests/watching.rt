@@ -65,7 +65,7 @@ fn what_waits_tells_what_it_waits_for(rt: HostRuntime) {
     tells(&rt, alloc, &mut handle, 0, (DONE, waits(3, 0, 1, 2)));
     tells(&rt, alloc, &mut handle, 1, (DONE, waits(1, 0, 1, 2)));
     tells(&rt, alloc, &mut handle, 2, (NONE_THERE, UNFILLED));
-    tells(&rt, alloc, &mut handle, 3, (NONE_THERE, UNFILLED));
+    tells(&rt, alloc, &mut handle, 3, (BAD_MEMBER, UNFILLED));
     receive(&rt, alloc, &mut handle, BOTH);
     waiting(&rt, alloc, &mut handle, 0);
     tells(&rt, alloc, &mut handle, 1, (NONE_THERE, UNFILLED));
@@ -103,7 +103,7 @@ fn is_at(
     let code = jolunza_acknowledged_by(alloc, handle, member, &mut count);
     assert_eq!(rt;
         jolunza_keeps_window_full(alloc, handle, member, &mut full),
-        DONE
+        code
     );
     assert_eq!(rt; (code, count, full), wanted);
 }
@@ -122,7 +122,7 @@ fn who_delivered_none_of_the_last_casts_keeps_the_window_full(rt: HostRuntime) {
     is_at(&rt, alloc, &mut handle, 0, (DONE, 4, false));
     is_at(&rt, alloc, &mut handle, 1, (DONE, 1, false));
     is_at(&rt, alloc, &mut handle, 2, (DONE, 0, true));
-    is_at(&rt, alloc, &mut handle, 3, (BAD_MEMBER, 9, false));
+    is_at(&rt, alloc, &mut handle, 3, (BAD_MEMBER, 9, true));
     jolunza_close(alloc, &mut handle);
 }
 

@@ -1,6 +1,6 @@
 use Rattle.cb_schedules.specs.Headline.{Headline}
-use Rattle.cb_schedules.specs.SentLaws.{StableStandsInEvents}
-use Rattle.cb_schedules.proofs.Headlines.{each_schedule, headline_holds, stable_stands_in_events}
+use Rattle.cb_schedules.specs.SentLaws.{StableOfStandsInEvents, StableStandsInEvents}
+use Rattle.cb_schedules.proofs.Headlines.{each_schedule, headline_holds, stable_of_stands_in_events, stable_stands_in_events}
 use Rattle.cb_world.specs.World.{run_in}
 use Rattle.cb_world.proofs.run.play.Goals as goal
 
@@ -18,3 +18,6 @@ returns-in-Ok-run_on-clause-times c = (headline_of c).times
 
 pub returns-in-Ok-run_on-clause-stable : goal.returns-in-Ok-run_on-clause-stable
 returns-in-Ok-run_on-clause-stable c = each_schedule StableStandsInEvents stable_stands_in_events _ _ c.finish.ensures.setting.is_setting
+
+pub returns-in-Ok-run_on-clause-stable_of : goal.returns-in-Ok-run_on-clause-stable_of
+returns-in-Ok-run_on-clause-stable_of c = each_schedule StableOfStandsInEvents stable_of_stands_in_events _ _ c.finish.ensures.setting.is_setting

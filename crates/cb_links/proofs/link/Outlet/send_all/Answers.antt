@@ -1,5 +1,5 @@
 use Rattle.std.proofs.Common.{arith}
-use Rattle.cb_links.proofs.Sending.{offered_more}
+use Rattle.cb_links.proofs.Sending.{none_more, offered_more}
 use Rattle.cb_links.proofs.link.Outlet.send_all.Goals as goal
 
 pub loop-frame-preserved : goal.loop-frame-preserved
@@ -7,4 +7,5 @@ loop-frame-preserved g c = (
   omega (arith, c.loop-frame.invariant.0, c.send-answer.ensures.rises),
   c.and-unsent.ensures.met _ _ c.send-answer.ensures.rises c.send-answer.ensures.fault _ c.loop-frame.invariant.1,
   offered_more _ _ _ c.loop-frame.frame-index c.and-unsent.ensures.answer c.loop-frame.invariant.2,
+  none_more _ _ _ _ _ _ c.and-unsent.ensures.answer c.loop-frame.invariant.3 c.send-answer.ensures.taken c.send-answer.ensures.fault,
 )

@@ -3,6 +3,7 @@ use Rattle.cb_history.specs.Legal.{ToTick}
 use Rattle.cb_node.specs.declared.desk.Desk.{Desk}
 use Rattle.cb_node.specs.Course.{Stays}
 use Rattle.cb_node.specs.Desk.{frames_in, state_in}
+use Rattle.cb_node.proofs.Asking.{ticks_in}
 use Rattle.cb_node.proofs.Courses.{goes_by_tick, goes_nowhere, goes_on_same}
 use Rattle.cb_node.proofs.Desks.{call_enters, same_desk, unentered}
 use Rattle.cb_node.proofs.Turns.{keep_still}
@@ -36,3 +37,8 @@ returns-in-Err-HistoryFull-clause-keeps g c = keep_still g.K.Keeper.has _ _ _ (s
 
 pub returns-in-Err-NoMemory-clause-keeps : goal.returns-in-Err-NoMemory-clause-keeps
 returns-in-Err-NoMemory-clause-keeps g c = keep_still g.K.Keeper.has _ _ _ (same_desk c.args.self.now c.tick_noted.new.self c.make_room.new.list c.in-Err-NoMemory.ensures.same c.make_room.ensures.items)
+
+pub returns-in-Ok-enter-clause-ticked : goal.returns-in-Ok-enter-clause-ticked
+returns-in-Ok-enter-clause-ticked g c =
+    ticks_in (state_in c.args.self.now) (state_in c.enter.new.self) c.args.self.now.member c.tick_noted.new.self c.in-Ok.ticked _ (c.requires.whole c.in_default.is) c.in-Ok-enter.ensures.kept (search rules)
+    (c.in-Ok-enter.ensures.posted ∙ ap (λ xs. frames_in xs ++ c.in-Ok.ticked.out.items) c.make_room.ensures.items) c.in-Ok-enter.ensures.refused (search rules)

@@ -1,3 +1,6 @@
+use Rattle.std.proofs.Common.{refl, ap, ◌∙◌}
+use Rattle.cb_node.specs.Kept.{KeptState}
+use Rattle.cb_node.proofs.Hearing.{and_hinders_none, hinders_none_between, same_on_ok}
 use Rattle.cb_node.proofs.Turns.{go_on, keep_on, keep_same}
 use Rattle.cb_node.proofs.node.Node.work.Goals as goal
 
@@ -16,3 +19,13 @@ returns-clause-keeps g c =
     (keep_on g.K.Keeper.has sent.keeper heard.keeper last.keeper sent.kept heard.kept last.kept c.listen-taken.ensures.keeps
     (keep_on g.K.Keeper.has heard.keeper ticked.keeper last.keeper heard.kept ticked.kept last.kept c.tick_if_due-ticked.ensures.keeps
     (keep_same g.K.Keeper.has ticked.keeper last.keeper ticked.kept last.kept c.send-2.ensures.keeper c.send-2.ensures.same)))
+
+pub returns-clause-unhindered : goal.returns-clause-unhindered
+returns-clause-unhindered g c =
+    let old = c.args.self.now in
+    let heard = c.listen-taken.new.self in
+    let ticked = c.tick_if_due-ticked.new.self in
+    let last = c.send-2.new.self in
+    let taken = hinders_none_between c.listen-taken.result old.kept.refused c.send.new.self.kept.refused heard.kept.refused heard.kept.refused (ap (λ (s : KeptState). s.refused) c.send.ensures.same) refl c.listen-taken.ensures.unhindered in
+    let after = same_on_ok c.tick_if_due-ticked.result heard.kept.refused last.kept.refused (ap (λ (s : KeptState). s.refused) c.send-2.ensures.same ∙ c.tick_if_due-ticked.ensures.refused) in
+    and_hinders_none c.listen-taken.result c.tick_if_due-ticked.result _ old.kept.refused heard.kept.refused last.kept.refused c.and.ensures taken after

@@ -1,7 +1,14 @@
+use Rattle.std.proofs.Common.{◌≡◌, length}
 use Rattle.cb_links.specs.Counts.{MetAtMost}
-use Rattle.cb_threads.specs.Offers.{FailuresAreLost}
+use Rattle.cb_threads.specs.Offers.{FailuresAreLost, IsLeft}
 use Rattle.cb_threads.proofs.workers.sender.WorkerMailboxOutgoingJob.run.Given as goal
 
--- what was met so far was counted, and lost
+-- what was met so far was counted, and lost; all frames that were taken were offered
 abbrev pub invariant-loop : goal.invariant-loop
-invariant-loop g l = MetAtMost l.worked.failures (g.O.Outlet.failed l.fn.self.part) (g.O.Outlet.failed l.worked.part) × FailuresAreLost l.worked.failures l.worked.lost
+invariant-loop g l =
+    record {
+      met : MetAtMost l.worked.failures (g.O.Outlet.failed l.fn.self.part) (g.O.Outlet.failed l.worked.part);
+      lost : FailuresAreLost l.worked.failures l.worked.lost;
+      empty : length l.batch.list.items ≡ 0;
+      offered : IsLeft l.worked.offered 0 l.batch.taken;
+    }

@@ -1,4 +1,0 @@
-pub mod Courses
-pub mod Calls
-pub mod Desks
-pub mod Turns

@@ -1,5 +1,0 @@
-pub mod Reports
-pub mod Talking
-pub mod Writing
-pub mod Posts
-pub mod Settling

@@ -1,3 +1,0 @@
-pub mod FaultText
-pub mod Outbox
-pub mod Calls
