@@ -1,5 +1,5 @@
 -- What became of received bytes, and what a turn was hindered by.
-use Rattle.std.proofs.Common.{◌≡◌, ◌⊎◌, ℕ, List, Option, Some, None, Result, Ok, Err, inr, refl, sym, ap, subst, ◌∙◌}
+use Rattle.std.proofs.Common.{◌≡◌, ℕ, List, Some, None, Result, Ok, Err, inr, refl, sym, ap, subst, ◌∙◌}
 use Rattle.std.specs.Prelude.{MatchResult, OnOk, IfErr}
 use Rattle.std.specs.Result.{result_and}
 use Rattle.cb_history.specs.declared.answer.ArriveRefusal.{ArriveRefusal}
@@ -9,7 +9,7 @@ use Rattle.cb_node.specs.declared.fault.TurnFault.{TurnFault}
 use Rattle.cb_node.specs.declared.fault.TurnFault.TheVariants as turns
 use Rattle.cb_node.specs.declared.refused.Refused.{Refused}
 use Rattle.cb_node.specs.Course.{MayRefuse, Work}
-use Rattle.cb_node.specs.Desk.{HasHeard, IsHindered, RefusesIn}
+use Rattle.cb_node.specs.Desk.{HasHeard, IsHindered}
 use Rattle.cb_node.specs.Kept.{KeptState, work_of}
 use Rattle.cb_node.specs.Refusing.{HinderNone, hindrance, with_refusal}
 

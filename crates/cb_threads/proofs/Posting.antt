@@ -12,7 +12,7 @@ use Rattle.cb_links.specs.Counts.{held}
 use Rattle.cb_lock.specs.Calls.{OnSome, ReceivesOn, TicksOn}
 use Rattle.cb_lock.specs.Receipts.{SeatState}
 use Rattle.cb_threads.specs.Helps.{helps_of}
-use Rattle.cb_threads.specs.Posting.{PostsAnswer, PostsHelps, PostsTick, ReceivesAndPosts, TicksAndPosts}
+use Rattle.cb_threads.specs.Posting.{PostsHelps, ReceivesAndPosts, TicksAndPosts}
 use Rattle.cb_threads.specs.declared.workers.turns.Turn.TheVariants as turns
 
 -- an arrival was accepted

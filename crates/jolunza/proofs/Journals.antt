@@ -1,11 +1,9 @@
 -- What a handle holds after a journal was read, and what is told of lines.
 use Rattle.std.proofs.Common.{◌≡◌, ◌≢◌, ℕ, List, Option, Some, None, Result, Ok, Err, refl, sym, subst, ◌∙◌, inl, inr}
-use Rattle.std.specs.Prelude.{MatchResult, IfOk, OnErr}
+use Rattle.std.specs.Prelude.{MatchResult}
 use Rattle.cb_history.specs.Facts.{EntryFields}
 use Rattle.cb_lines.specs.Text.{entry_line}
-use Rattle.cb_journal.specs.Journal.{head_line}
 use Rattle.cb_handle.specs.declared.held.Held.{Held}
-use Rattle.cb_handle.specs.Calling.{seat_held}
 use Rattle.cb_handle_journal.specs.declared.fault.LineRefusal.{LineRefusal}
 use Rattle.cb_handle_journal.specs.declared.fault.LineRefusal.TheVariants as lines
 use Rattle.cb_handle_journal.specs.declared.fault.ResumeFault.TheVariants.{NoMemory}
@@ -13,8 +11,8 @@ use Rattle.cb_handle_journal.specs.declared.resuming.Resumed.{Resumed}
 use Rattle.cb_handle_journal.specs.Lines.{SaysLine, ShowsLine}
 use Rattle.cb_handle_journal.specs.Resuming.{IsResumed}
 use Rattle.jolunza.specs.declared.journal.Journal.{Journal}
-use Rattle.jolunza.specs.declared.code.TheConstants.{DONE, NO_MEMORY}
-use Rattle.jolunza.specs.Calls.{Holds, Resumes, ShowsEntryLine, ShowsHead, journal_row}
+use Rattle.jolunza.specs.declared.code.TheConstants.{DONE}
+use Rattle.jolunza.specs.Calls.{Holds, Resumes, ShowsEntryLine, journal_row}
 use Rattle.jolunza.specs.Codes.{line_code}
 
 pub resumes_so : (bytes : List ℕ) (limit : ℕ) (journal new_journal : Journal) (held : Held) (read : ℕ) → new_journal ≡ journal_row held read → IsResumed bytes limit held read

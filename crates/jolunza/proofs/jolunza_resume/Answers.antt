@@ -1,4 +1,4 @@
-use Rattle.std.proofs.Common.{refl, sym, subst}
+use Rattle.std.proofs.Common.{sym, subst}
 use Rattle.std.specs.Prelude.{Option}
 use Rattle.cb_handle.specs.declared.held.Held.{Held}
 use Rattle.jolunza.specs.Calls.{Resumes}
