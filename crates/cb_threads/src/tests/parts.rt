@@ -1,7 +1,7 @@
 //! Parts for tests: what waits for others, talks a little, or fails at a call.
 
-ghost use Rattle.std.specs.Bool.{OnFalse};
-ghost use Rattle.std.specs.Prelude.{◌≡◌, ◌+◌, ◌≤◌, OnTrue, false};
+ghost use Rattle.std.specs.Bool.{OnFalse, OnTrue};
+ghost use Rattle.std.specs.Prelude.{◌≡◌, ◌+◌, ◌≤◌, false};
 ghost use Rattle.cb_links.specs.Counts.{HasCounted, held};
 
 use crate::{Every, Inlet, LinkFault, Outlet, Pace, PaceFault, Received, Talk, Talker};
