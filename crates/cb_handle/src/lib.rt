@@ -10,7 +10,6 @@ mod crossing;
 mod frames;
 mod handle;
 mod held;
-mod kept;
 mod payloads;
 mod reading;
 mod received;
@@ -20,7 +19,6 @@ pub use copies::copy_front;
 pub use frames::Frames;
 pub use handle::{Handle, closed, put, take};
 pub use held::{Held, LoadedRefusal, NoneThere, OpenFault, PayloadsRefusal};
-pub use kept::Kept;
 pub use rows::{
     ARRIVE, CAST, Counts, Delayed, EntryHead, EventHead, FrameHead, Name, Range, Received, TICK,
 };

@@ -6,13 +6,13 @@ use Rattle.cb_history.specs.Events.{events}
 use Rattle.cb_history.specs.Facts.{EntryFields, facts_of}
 use Rattle.cb_history.specs.Group.{Identity}
 use Rattle.cb_history.specs.Legal.{AreEntriesOf}
+use Rattle.cb_member.specs.Kept.{KeptMember, Stands, entries_of, events_of, seat_of}
 use Rattle.cb_lines.specs.Text.{line_feed}
 use Rattle.cb_journal.specs.Journal.{IsJournal, journal_text}
 use Rattle.cb_journal.specs.Reading.{IsFirstBadLine}
 use Rattle.cb_replay.specs.Returning.{IsFirstNotAdded}
 use Rattle.cb_handle.specs.declared.held.Held.{Held}
 use Rattle.cb_handle.specs.Frames.{frames_of}
-use Rattle.cb_handle.specs.Kept.{KeptMember, Stands, entries_of, events_of, seat_of}
 use Rattle.cb_handle.specs.Opening.{IsLimit}
 use Rattle.cb_handle_journal.specs.declared.fault.ResumeFault.{ResumeFault}
 use Rattle.cb_handle_journal.specs.declared.fault.ResumeFault.TheVariants.{NoHead, BadLine, BadLimit, TooLong, NotLegal, NoMemory}

@@ -12,6 +12,7 @@ mod arrival;
 mod core_member;
 mod delivery;
 mod helping;
+mod kept;
 mod knowledge;
 mod laws;
 mod member;
@@ -36,6 +37,7 @@ pub use cb_history::{
 };
 pub use cb_times::{NoMemory, TimeOrder, VectorTime};
 pub use core_member::CoreMember;
+pub use kept::Kept;
 pub use laws::cores_answer_by_their_history;
 pub use member::Member;
 pub use readings::{Awaited, Delayed};

@@ -12,18 +12,20 @@ ghost use Rattle.cb_history.specs.State.{missing_in, stable_in, stable_of_in, ti
 ghost use Rattle.cb_member.specs.Casting.{RefusesBurstExactly, RefusesExactly};
 ghost use Rattle.cb_member.specs.Readings.{acknowledged_by_in, keeps_window_full_in, waiting_in, waits_for_in};
 ghost use Rattle.cb_member.specs.CoreCalls.{MayCast};
-ghost use Rattle.cb_handle.specs.Kept.{IsKept, OnEach, seat_of, events_of, entries_of, kept_of};
-ghost use Rattle.cb_handle.specs.Opening.{IsNew};
-ghost use Rattle.cb_handle.specs.Calling.{HasCast, HasTicked};
-ghost use Rattle.cb_handle.specs.Parts.{HasReceivedBehind};
+ghost use Rattle.cb_member.specs.Kept.{IsKept, OnEach, seat_of, events_of, entries_of, kept_of};
+ghost use Rattle.cb_member.specs.KeptCalls.{HasCast, HasReceivedBehind, HasTicked, IsNew};
 
+use crate::core_member::CoreMember;
+use crate::readings::Delayed;
+use crate::recorder::Received;
 use bytes::Bytes;
-use cb_history::{Identity, LONGEST_HISTORY};
-use cb_member::{
-    ArriveRefusal, BurstRefusal, CastRefusal, CoreMember, Delayed, Entry, Event, Group, HelpFault,
-    MissingFault, NewFault, Outgoing, Range, Received, TickRefusal, VectorTime,
+use cb_delay::Event;
+use cb_frames::Range;
+use cb_history::{
+    ArriveRefusal, BurstRefusal, CastRefusal, Entry, Group, HelpFault, Identity, LONGEST_HISTORY,
+    MissingFault, NewFault, Outgoing, TickRefusal,
 };
-use cb_times::make_room;
+use cb_times::{VectorTime, make_room};
 use std::alloc::Global;
 use std::marker::Model;
 
@@ -40,7 +42,7 @@ pub struct Kept {
 }
 
 impl Model for Kept {
-    ghost use Rattle.cb_handle.specs.Kept.{IsKept, KeptMember, kept_code, kept_of};
+    ghost use Rattle.cb_member.specs.Kept.{IsKept, KeptMember, kept_code, kept_of};
 
     ghost Value = { KeptMember };
 

@@ -28,11 +28,11 @@ use Rattle.cb_member.specs.declared.recorder.taken.Received.TheVariants as taken
 use Rattle.cb_member.specs.CoreMember.{Core, GoesOn as CoreGoesOn, OnEach as OnEachCore, StandsFor, grown_by, unlimited}
 use Rattle.cb_member.specs.CoreCalls.{HasReceivedWith, JoinsAs, MayCast, RefusesWithin}
 use Rattle.cb_member.specs.Received.{count_said, deliveries_in, received_says}
-use Rattle.cb_handle.specs.Kept.{IsKept, KeptMember, OnEach, Stands, limit_of, state_with}
-use Rattle.cb_handle.specs.Calling.{HasCast, HasReceived, HasTicked, Tells}
-use Rattle.cb_replay.proofs.Adding.{arrival_adds, cast_adds, tick_adds}
-use Rattle.cb_handle.proofs.Keeping.{Adds, goes_on, is_kept}
-use Rattle.cb_handle.proofs.Limits.{arrival_full, arrival_read, arrival_refused, arrival_same, arrival_silent, cast_full, cast_refused, cast_same, no_room_is_left, room_is_left, tick_full, tick_enters_none, tick_refused, tick_same, tick_silent}
+use Rattle.cb_member.specs.Kept.{IsKept, KeptMember, OnEach, Stands, limit_of, state_with}
+use Rattle.cb_member.specs.KeptCalls.{HasCast, HasReceived, HasTicked, Tells}
+use Rattle.cb_member.proofs.Adding.{arrival_adds, cast_adds, tick_adds}
+use Rattle.cb_member.proofs.Keeping.{Adds, goes_on, is_kept}
+use Rattle.cb_member.proofs.Limits.{arrival_full, arrival_read, arrival_refused, arrival_same, arrival_silent, cast_full, cast_refused, cast_same, no_room_is_left, room_is_left, tick_full, tick_enters_none, tick_refused, tick_same, tick_silent}
 
 -- the history of this length is full
 abbrev pub Full : KeptMember → Bool

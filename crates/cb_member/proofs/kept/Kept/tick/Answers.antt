@@ -5,11 +5,11 @@ use Rattle.cb_history.specs.Facts.{entry_fields}
 use Rattle.cb_history.specs.Legal.{ToTick}
 use Rattle.cb_history.specs.State.{facts_in}
 use Rattle.cb_member.specs.CoreMember.{OnEach}
-use Rattle.cb_handle.specs.Kept.{KeptMember}
-use Rattle.cb_handle.proofs.Keeping.{entries_left, events_left, full_is}
-use Rattle.cb_handle.proofs.Forgetting.{Did, Full, tick_kept, tick_refused_full, ticks_so}
-use Rattle.cb_handle.proofs.kept.Kept.tick.Goals as goal
-use Rattle.cb_handle.proofs.kept.Kept.tick.Goals.{else-is_full-via-then-is_full+else-has_news, else-is_full-via-else-is_full}
+use Rattle.cb_member.specs.Kept.{KeptMember}
+use Rattle.cb_member.proofs.Keeping.{entries_left, events_left, full_is}
+use Rattle.cb_member.proofs.Forgetting.{Did, Full, tick_kept, tick_refused_full, ticks_so}
+use Rattle.cb_member.proofs.kept.Kept.tick.Goals as goal
+use Rattle.cb_member.proofs.kept.Kept.tick.Goals.{else-is_full-via-then-is_full+else-has_news, else-is_full-via-else-is_full}
 
 pub returns-then-has_news-clause-refused : goal.returns-then-has_news-clause-refused
 returns-then-has_news-clause-refused c =

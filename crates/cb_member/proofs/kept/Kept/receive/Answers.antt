@@ -4,12 +4,12 @@ use Rattle.std.proofs.lemmas.List.{length-map}
 use Rattle.cb_history.specs.declared.history.Entry.{Entry}
 use Rattle.cb_history.specs.Facts.{entry_fields}
 use Rattle.cb_history.specs.Legal.{ToTake, and_entry}
-use Rattle.cb_handle.specs.Kept.{KeptMember}
-use Rattle.cb_handle.specs.Parts.{behind}
-use Rattle.cb_handle.proofs.Keeping.{full_is}
-use Rattle.cb_handle.proofs.Forgetting.{Did, arrival_refused_so, has_room_or_none, received_kept, receives_so}
-use Rattle.cb_handle.proofs.Parts.{count_is, entries_stay, events_stay, is_behind, kept_behind, left}
-use Rattle.cb_handle.proofs.kept.Kept.receive.Goals as goal
+use Rattle.cb_member.specs.Kept.{KeptMember}
+use Rattle.cb_member.specs.KeptCalls.{behind}
+use Rattle.cb_member.proofs.Keeping.{full_is}
+use Rattle.cb_member.proofs.Forgetting.{Did, arrival_refused_so, has_room_or_none, received_kept, receives_so}
+use Rattle.cb_member.proofs.Behind.{count_is, entries_stay, events_stay, is_behind, kept_behind, left}
+use Rattle.cb_member.proofs.kept.Kept.receive.Goals as goal
 
 pub invariant_of-self : goal.invariant_of-self
 invariant_of-self c =

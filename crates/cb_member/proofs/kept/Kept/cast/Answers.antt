@@ -4,10 +4,10 @@ use Rattle.cb_history.specs.declared.answer.CastRefusal.TheVariants as casts
 use Rattle.cb_history.specs.CastFault.{fault_told}
 use Rattle.cb_history.specs.Facts.{entry_fields}
 use Rattle.cb_history.specs.Legal.{ToCast}
-use Rattle.cb_handle.specs.Kept.{KeptMember}
-use Rattle.cb_handle.proofs.Keeping.{entries_left, events_left, full_is}
-use Rattle.cb_handle.proofs.Forgetting.{Did, cast_kept, cast_lacks_memory, cast_refused_full, cast_refused_so, casts_so}
-use Rattle.cb_handle.proofs.kept.Kept.cast.Goals as goal
+use Rattle.cb_member.specs.Kept.{KeptMember}
+use Rattle.cb_member.proofs.Keeping.{entries_left, events_left, full_is}
+use Rattle.cb_member.proofs.Forgetting.{Did, cast_kept, cast_lacks_memory, cast_refused_full, cast_refused_so, casts_so}
+use Rattle.cb_member.proofs.kept.Kept.cast.Goals as goal
 
 pub returns-then-is_full-clause-refused : goal.returns-then-is_full-clause-refused
 returns-then-is_full-clause-refused c =

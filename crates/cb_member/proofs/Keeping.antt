@@ -12,9 +12,9 @@ use Rattle.cb_history.specs.Legal.{Call, and_entry}
 use Rattle.cb_history.specs.State.{entry_by, events_in, state_after}
 use Rattle.cb_history.specs.View.{view}
 use Rattle.cb_member.specs.CoreMember.{Core, GoesOn as CoreGoesOn, StandsFor, grown_by, unlimited}
-use Rattle.cb_handle.specs.Kept.{IsKept, KeptMember, OnEach, Stands, gone, limit_for, state_with}
-use Rattle.cb_handle.specs.Calling.{GoesOn}
-use Rattle.cb_handle.proofs.Limits.{is_some}
+use Rattle.cb_member.specs.Kept.{IsKept, KeptMember, OnEach, Stands, gone, limit_for, state_with}
+use Rattle.cb_member.specs.KeptCalls.{GoesOn}
+use Rattle.cb_member.proofs.Limits.{is_some}
 
 -- a call has added this entry, if any, and events behind those that were there; without a history those of before are gone
 pub record Adds (call : Call) (old new : KeptMember) (after : List Event) (entry : Option EntryFields) : Type 0 where

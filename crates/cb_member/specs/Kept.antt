@@ -1,5 +1,5 @@
 -- What is held of a member: which histories it may have, and what of them is there to be read.
-use Rattle.std.specs.Prelude.{◌≡◌, ◌≢◌, ℕ, ◌≤◌, Bool, ◌==◌, List, [], length, map, refl, if◌then◌else◌}
+use Rattle.std.specs.Prelude.{◌≡◌, ◌≢◌, ℕ, ◌≤◌, Bool, true, false, ◌==◌, List, [], length, map, refl, if◌then◌else◌}
 use Rattle.std.specs.Coded.{Coded, code_by, coded×, coded_bool, coded_list, coded_ℕ}
 use Rattle.cb_times.specs.declared.name.Name.{Name}
 use Rattle.cb_delay.specs.declared.message.Event.{Event}
@@ -14,7 +14,6 @@ use Rattle.cb_history.specs.Facts.{EntryFields, CastEntry, ArriveEntry, TickEntr
 use Rattle.cb_history.specs.Legal.{room_for_one}
 use Rattle.cb_history.specs.State.{MemberState}
 use Rattle.cb_member.specs.CoreMember.{Core, StandsFor, core_code}
-use Rattle.cb_handle.specs.Events.{is_own}
 
 -- A member, how many entries its history may have, and what is there to be read: its history and all events. One that may have none
 -- keeps no history, and there is what its last call added.
@@ -75,6 +74,10 @@ abbrev pub gone : {X : Type 0} → KeptMember → List X → List X
 gone kept before = if kept.limit == 0 then before else []
 
 -- ---- how it is stored: its fields as pairs
+
+abbrev pub is_own : Event → Bool
+is_own (Cast message) = true
+is_own (Deliver message) = false
 
 abbrev pub event_in : Bool × Message → Event
 event_in p = if p.0 then Cast p.1 else Deliver p.1
