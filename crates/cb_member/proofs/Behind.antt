@@ -8,7 +8,7 @@ use Rattle.cb_history.specs.declared.history.Entry.{Entry}
 use Rattle.cb_history.specs.Facts.{EntryFields, entry_fields}
 use Rattle.cb_history.specs.Legal.{and_entry}
 use Rattle.cb_member.specs.CoreMember.{Core}
-use Rattle.cb_member.specs.Kept.{IsHistory, IsKept, KeptMember}
+use Rattle.cb_member.specs.Kept.{IsHistory, IsKept, Kept}
 use Rattle.cb_member.specs.KeptCalls.{behind}
 use Rattle.cb_member.proofs.Keeping.{joined}
 
@@ -47,16 +47,16 @@ entries_stay limit n stays old all new entry is many joins =
     ∙ ap (λ (k : ℕ). if limit == 0 then drop k (and_entry old entry) else and_entry old entry) many
     ∙ left_by (limit == 0) stays old (and_entry [] entry) (and_entry old entry) (sym (joined old entry))
 
-pub is_behind : (stays : Bool) (core : Core) (limit : ℕ) (old : KeptMember) (entries left_entries : List EntryFields) (events left_events : List Event)
+pub is_behind : (stays : Bool) (core : Core) (limit : ℕ) (old : Kept) (entries left_entries : List EntryFields) (events left_events : List Event)
     → entries ≡ (if stays then (if limit == 0 then old.entries else []) ++ left_entries else left_entries) → events ≡ (if stays then (if limit == 0 then old.events else []) ++ left_events else left_events)
-    → (let new : KeptMember = record { core = core; limit = limit; entries = entries; events = events } in
-    let after : KeptMember = record { core = core; limit = limit; entries = left_entries; events = left_events } in
+    → (let new : Kept = record { core = core; limit = limit; entries = entries; events = events } in
+    let after : Kept = record { core = core; limit = limit; entries = left_entries; events = left_events } in
     new ≡ (if stays then behind old after else after))
 is_behind true core limit old entries left_entries events left_events e v = λ i. record { core = core; limit = limit; entries = e i; events = v i }
 is_behind false core limit old entries left_entries events left_events e v = λ i. record { core = core; limit = limit; entries = e i; events = v i }
 
 -- a history that is kept is the one after the call
-same_behind : (old after : KeptMember) → after.limit ≢ 0 → behind old after ≡ after
+same_behind : (old after : Kept) → after.limit ≢ 0 → behind old after ≡ after
 same_behind old after some = λ i. record {
   core = after.core;
   limit = after.limit;
@@ -64,8 +64,8 @@ same_behind old after some = λ i. record {
   events = (if ne_eqb after.limit 0 some i then old.events else []) ++ after.events;
 }
 
-pub kept_behind : (stays : Bool) (old after new : KeptMember) → new ≡ (if stays then behind old after else after) → IsKept after → IsKept new
+pub kept_behind : (stays : Bool) (old after new : Kept) → new ≡ (if stays then behind old after else after) → IsKept after → IsKept new
 kept_behind false old after new is kept = subst IsKept (sym is) kept
 kept_behind true old after new is kept = λ some.
-    let over : after.limit ≢ 0 = λ zero. some (ap (λ (k : KeptMember). k.limit) is ∙ zero) in
+    let over : after.limit ≢ 0 = λ zero. some (ap (λ (k : Kept). k.limit) is ∙ zero) in
     subst IsHistory (sym (is ∙ same_behind old after over)) (kept over)

@@ -42,9 +42,9 @@ pub struct Kept {
 }
 
 impl Model for Kept {
-    ghost use Rattle.cb_member.specs.Kept.{IsKept, KeptMember, kept_code, kept_of};
+    ghost use Rattle.cb_member.specs.Kept.{IsKept, Kept, kept_code, kept_of};
 
-    ghost Value = { KeptMember };
+    ghost Value = { Kept };
 
     ghost coded = { kept_code };
 
