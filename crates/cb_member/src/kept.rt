@@ -1,4 +1,4 @@
-//! A member, and beside it what can be read: its history and all events, or what its last call added.
+//! A member whose history is optional: a core, and beside it what can be read.
 
 ghost use Rattle.std.specs.Prelude.{◌≡◌, ◌≢◌, ◌↔◌, ◌⊎◌, ◌+◌, ◌≤◌, ◌<◌, ◌==◌, ◌&&◌, not, length, map, drop, nat_le, option_map, IfOk, IfErr, OnErr, None, Ok, Err, true, false, if◌then◌else◌};
 ghost use Rattle.cb_frames.specs.Fields.{One};
@@ -29,7 +29,11 @@ use cb_times::{VectorTime, make_room};
 use std::alloc::Global;
 use std::marker::Model;
 
-/// A member, with its history where it keeps one.
+/// A member that keeps its history, or none where that may have no entries.
+///
+/// It is a core, and beside it the entries and events that can be read: with a history all so far,
+/// without one those of the last call. It answers as the member with each history that it may have,
+/// and after any refusal it is as it was.
 #[derive(Drop)]
 pub struct Kept {
     core: CoreMember,
