@@ -1,9 +1,11 @@
 pub mod Accepting
 pub mod Acknowledging
+pub mod Adding
 pub mod Alike
 pub mod Answering
 pub mod Arriving
 pub mod Awaiting
+pub mod Behind
 pub mod Bursting
 pub mod Casting
 pub mod CoreArrivals
@@ -16,11 +18,15 @@ pub mod Courses
 pub mod Draining
 pub mod Entering
 pub mod Foreseeing
+pub mod Forgetting
 pub mod Going
 pub mod HandingOn
 pub mod Hearing
 pub mod Judging
 pub mod JudgingCasts
+pub mod Keeping
+pub mod KeptRows
+pub mod Limits
 pub mod NeverFull
 pub mod OwnCasts
 pub mod Passing

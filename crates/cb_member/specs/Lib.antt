@@ -9,6 +9,8 @@ pub mod Delivery
 pub mod Entering
 pub mod Foreseen
 pub mod Hearing
+pub mod Kept
+pub mod KeptCalls
 pub mod Knowledge
 pub mod Passing
 pub mod Readings

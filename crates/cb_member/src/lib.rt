@@ -4,6 +4,9 @@
 //! beside its history is tied to the entries by named facts: the counts of the view, the messages that are expanded and not delivered,
 //! the casts that wait for those before them, what is known of the others, the own casts above stable.
 //!
+//! `Member` keeps its history and `CoreMember` none. A `Kept` is a core with its history beside it, or with what its last call added, as
+//! its limit says.
+//!
 //! Stands on the crates below: on `cb_times`, `cb_frames`, `cb_diffs`, `cb_delay`, `cb_gaps` and `cb_stability` for the work, on
 //! `cb_history` for types and meaning.
 #![tactic(auto)]
@@ -12,6 +15,7 @@ mod arrival;
 mod core_member;
 mod delivery;
 mod helping;
+mod kept;
 mod knowledge;
 mod laws;
 mod member;
@@ -36,6 +40,7 @@ pub use cb_history::{
 };
 pub use cb_times::{NoMemory, TimeOrder, VectorTime};
 pub use core_member::CoreMember;
+pub use kept::Kept;
 pub use laws::cores_answer_by_their_history;
 pub use member::Member;
 pub use readings::{Awaited, Delayed};

@@ -28,7 +28,7 @@ use Rattle.cb_member.specs.CoreCalls.{HasReceivedWith, JoinsAs}
 use Rattle.cb_member.specs.CoreMember.{Core, GoesOn, OnEach, StandsFor, grown_by, unlimited}
 use Rattle.cb_member.specs.Received.{count_said, deliveries_in, received_says}
 use Rattle.cb_replay.specs.CoreReplaying.{HasJoined, SaysAddedOnEach}
-use Rattle.cb_replay.proofs.Adding.{arrival_adds, cast_adds, tick_adds}
+use Rattle.cb_member.proofs.Adding.{arrival_adds, cast_adds, tick_adds}
 
 -- the events that a call adds joined the list, whatever history the core stood for
 abbrev pub Joins : Core → Call → List Event → List Event → Type 0

@@ -28,20 +28,20 @@ use Rattle.cb_member.specs.declared.recorder.taken.Received.TheVariants as taken
 use Rattle.cb_member.specs.CoreMember.{Core, GoesOn as CoreGoesOn, OnEach as OnEachCore, StandsFor, grown_by, unlimited}
 use Rattle.cb_member.specs.CoreCalls.{HasReceivedWith, JoinsAs, MayCast, RefusesWithin}
 use Rattle.cb_member.specs.Received.{count_said, deliveries_in, received_says}
-use Rattle.cb_handle.specs.Kept.{IsKept, KeptMember, OnEach, Stands, limit_of, state_with}
-use Rattle.cb_handle.specs.Calling.{HasCast, HasReceived, HasTicked, Tells}
-use Rattle.cb_replay.proofs.Adding.{arrival_adds, cast_adds, tick_adds}
-use Rattle.cb_handle.proofs.Keeping.{Adds, goes_on, is_kept}
-use Rattle.cb_handle.proofs.Limits.{arrival_full, arrival_read, arrival_refused, arrival_same, arrival_silent, cast_full, cast_refused, cast_same, no_room_is_left, room_is_left, tick_full, tick_enters_none, tick_refused, tick_same, tick_silent}
+use Rattle.cb_member.specs.Kept.{IsKept, Kept, OnEach, Stands, limit_of, state_with}
+use Rattle.cb_member.specs.KeptCalls.{HasCast, HasReceived, HasTicked, Tells}
+use Rattle.cb_member.proofs.Adding.{arrival_adds, cast_adds, tick_adds}
+use Rattle.cb_member.proofs.Keeping.{Adds, goes_on, is_kept}
+use Rattle.cb_member.proofs.Limits.{arrival_full, arrival_read, arrival_refused, arrival_same, arrival_silent, cast_full, cast_refused, cast_same, no_room_is_left, room_is_left, tick_full, tick_enters_none, tick_refused, tick_same, tick_silent}
 
 -- the history of this length is full
-abbrev pub Full : KeptMember → Bool
+abbrev pub Full : Kept → Bool
 Full kept = not (kept.limit == 0) && nat_le kept.limit (length kept.entries)
 
-has_room : (old : KeptMember) → Full old ≡ false → (es : List EntryFields) → Stands old es → is_full (limit_of old es) es ≡ false
+has_room : (old : Kept) → Full old ≡ false → (es : List EntryFields) → Stands old es → is_full (limit_of old es) es ≡ false
 has_room old off es st = room_is_left old.limit es old.entries st.are_kept off
 
-has_none : (old : KeptMember) → Full old ≡ true → (es : List EntryFields) → Stands old es → is_full (limit_of old es) es ≡ true
+has_none : (old : Kept) → Full old ≡ true → (es : List EntryFields) → Stands old es → is_full (limit_of old es) es ≡ true
 has_none old on es st = no_room_is_left old.limit es old.entries st.are_kept on
 
 module _ (old core : Core) (call : Call) (goes : CoreGoesOn call old core) (es : List EntryFields) (s : StandsFor es old) where
@@ -63,43 +63,43 @@ module _ {R : Type 0} (told : R → Option CastFault) (no_memory : R) where
   abbrev pub Refuses : MemberState → Load → R → Type 0
   Refuses m load refusal = IsFault (told refusal) (answer_to_cast m load) ⊎ ((refusal ≡ no_memory) × IsOk (answer_to_cast m load))
 
-  pub cast_refused_full : (old : KeptMember) (load : Load) (full refusal : R) → told full ≡ Some HistoryFull → Full old ≡ true
+  pub cast_refused_full : (old : Kept) (load : Load) (full refusal : R) → told full ≡ Some HistoryFull → Full old ≡ true
       → MayCast told load old.core (Err refusal) ⊎ ((refusal ≡ full) × MayCast told load old.core (Ok tt)) → OnEach old (λ m. Refuses m load refusal)
   cast_refused_full old load full refusal tells on (inl refuses) es st = inl (cast_refused old.core.seat (limit_of old es) es load (told refusal) (refuses es st.stands))
   cast_refused_full old load full refusal tells on (inr may) es st =
       inl (subst (λ (fault : Option CastFault). IsFault fault (answer_to_cast (state_with old es) load)) (sym (ap told may.0 ∙ tells))
       (cast_full old.core.seat (limit_of old es) es load (next_cast old.core.seat (facts_of es) load) (has_none old on es st) (may.1 es st.stands)))
 
-  pub cast_lacks_memory : (old : KeptMember) (load : Load) (refusal : R) → Full old ≡ false
+  pub cast_lacks_memory : (old : Kept) (load : Load) (refusal : R) → Full old ≡ false
       → MayCast told load old.core (Err refusal) ⊎ ((refusal ≡ no_memory) × MayCast told load old.core (Ok tt)) → OnEach old (λ m. Refuses m load refusal)
   cast_lacks_memory old load refusal room (inl refuses) es st = inl (cast_refused old.core.seat (limit_of old es) es load (told refusal) (refuses es st.stands))
   cast_lacks_memory old load refusal room (inr may) es st =
       inr (may.0, is_ok_then _ (next_cast old.core.seat (facts_of es) load) (cast_same old.core.seat (limit_of old es) es load (has_room old room es st) ∙ may.1 es st.stands))
 
-  pub cast_refused_so : (old : KeptMember) (load : Load) (refusal : R) → Full old ≡ false → OnEachCore old.core (λ m. Refuses m load refusal) → OnEach old (λ m. Refuses m load refusal)
+  pub cast_refused_so : (old : Kept) (load : Load) (refusal : R) → Full old ≡ false → OnEachCore old.core (λ m. Refuses m load refusal) → OnEach old (λ m. Refuses m load refusal)
   cast_refused_so old load refusal room refuses es st =
       subst (λ (r : Result CastFields CastFault). IsFault (told refusal) r ⊎ ((refusal ≡ no_memory) × IsOk r))
       (sym (cast_same old.core.seat (limit_of old es) es load (has_room old room es st))) (refuses es st.stands)
 
-arrival_refused_at : (old : KeptMember) (bytes : List ℕ) (refusal : ArriveRefusal) (es : List EntryFields) → RefusesArrival (unlimited old.core.seat es) bytes refusal → RefusesArrival (state_with old es) bytes refusal
+arrival_refused_at : (old : Kept) (bytes : List ℕ) (refusal : ArriveRefusal) (es : List EntryFields) → RefusesArrival (unlimited old.core.seat es) bytes refusal → RefusesArrival (state_with old es) bytes refusal
 arrival_refused_at old bytes refusal es (inl says) = inl (arrival_refused old.core.seat (limit_of old es) es bytes refusal says)
 arrival_refused_at old bytes refusal es (inr memory) = inr memory
 
-refused_at : (old : KeptMember) (bytes : List ℕ) (may_enter : Bool) (refusal : ArriveRefusal) (es : List EntryFields) → Stands old es → (refusal ≡ refusals.HistoryFull → Full old ≡ true)
+refused_at : (old : Kept) (bytes : List ℕ) (may_enter : Bool) (refusal : ArriveRefusal) (es : List EntryFields) → Stands old es → (refusal ≡ refusals.HistoryFull → Full old ≡ true)
     → RefusesWithin may_enter (unlimited old.core.seat es) bytes refusal → RefusesArrival (state_with old es) bytes refusal
 refused_at old bytes may_enter refusal es st full (inl refuses) = arrival_refused_at old bytes refusal es refuses
 refused_at old bytes may_enter refusal es st full (inr enters) =
     inl (arrival_full old.core.seat (limit_of old es) es bytes (has_none old (full enters.1) es st) enters.2
     ∙ ap (λ (r : ArriveRefusal). let x : Result ArrivalSays ArriveRefusal = Err r in x) (sym enters.1))
 
-no_memory_at : (old : KeptMember) (bytes : List ℕ) (may_enter : Bool) (es : List EntryFields) → RefusesWithin may_enter (unlimited old.core.seat es) bytes refusals.HistoryFull
+no_memory_at : (old : Kept) (bytes : List ℕ) (may_enter : Bool) (es : List EntryFields) → RefusesWithin may_enter (unlimited old.core.seat es) bytes refusals.HistoryFull
     → RefusesArrival (state_with old es) bytes refusals.NoMemory
 no_memory_at old bytes may_enter es (inl (inl full)) = inr (refl, arrival_read old.core.seat (room_for_one es) es bytes (inl full))
 no_memory_at old bytes may_enter es (inl (inr memory)) = inr (refl, memory.1)
 no_memory_at old bytes may_enter es (inr enters) = inr (refl, arrival_read old.core.seat (room_for_one es) es bytes (inr enters.2))
 
 -- it is refused so; but where an entry was refused and the history is not full, there was no memory for the entry
-pub arrival_refused_so : (old : KeptMember) (bytes : List ℕ) (may_enter full : Bool) (refusal answer : ArriveRefusal) → Full old ≡ full → OnEachCore old.core (λ m. RefusesWithin may_enter m bytes refusal)
+pub arrival_refused_so : (old : Kept) (bytes : List ℕ) (may_enter full : Bool) (refusal answer : ArriveRefusal) → Full old ≡ full → OnEachCore old.core (λ m. RefusesWithin may_enter m bytes refusal)
     → ((answer ≡ refusal) × (refusal ≡ refusals.HistoryFull → full ≡ true)) ⊎ ((refusal ≡ refusals.HistoryFull) × (answer ≡ refusals.NoMemory)) → OnEach old (λ m. RefusesArrival m bytes answer)
 arrival_refused_so old bytes may_enter full refusal answer is refuses (inl same) es st =
     subst (λ (r : ArriveRefusal). RefusesArrival (state_with old es) bytes r) (sym same.0) (refused_at old bytes may_enter refusal es st (λ on. is ∙ same.1 on) (refuses es st.stands))
@@ -107,20 +107,20 @@ arrival_refused_so old bytes may_enter full refusal answer is refuses (inr none)
     subst (λ (r : ArriveRefusal). RefusesArrival (state_with old es) bytes r) (sym none.1)
     (no_memory_at old bytes may_enter es (subst (λ (r : ArriveRefusal). RefusesWithin may_enter (unlimited old.core.seat es) bytes r) none.0 (refuses es st.stands)))
 
-pub tick_refused_full : (old : KeptMember) → Full old ≡ true → OnEachCore old.core (λ m. true ≡ is_new_status m.seat (facts_in m)) → OnEach old (λ m. RefusesTick m ticks.HistoryFull)
+pub tick_refused_full : (old : Kept) → Full old ≡ true → OnEachCore old.core (λ m. true ≡ is_new_status m.seat (facts_in m)) → OnEach old (λ m. RefusesTick m ticks.HistoryFull)
 tick_refused_full old full news es st = inl (tick_full old.core.seat (limit_of old es) es (sym (news es st.stands)) (has_none old full es st))
 
-tick_refused_at : (old : KeptMember) (refusal : TickRefusal) (es : List EntryFields) → RefusesTick (unlimited old.core.seat es) refusal → RefusesTick (state_with old es) refusal
+tick_refused_at : (old : Kept) (refusal : TickRefusal) (es : List EntryFields) → RefusesTick (unlimited old.core.seat es) refusal → RefusesTick (state_with old es) refusal
 tick_refused_at old refusal es (inl says) = absurd (tick_refused old.core.seat (limit_of old es) es refusal says)
 tick_refused_at old refusal es (inr memory) = inr memory
 
-pub tick_refused_so : (old : KeptMember) (refusal : TickRefusal) → OnEachCore old.core (λ m. RefusesTick m refusal) → OnEach old (λ m. RefusesTick m refusal)
+pub tick_refused_so : (old : Kept) (refusal : TickRefusal) → OnEachCore old.core (λ m. RefusesTick m refusal) → OnEach old (λ m. RefusesTick m refusal)
 tick_refused_so old refusal refuses es st = tick_refused_at old refusal es (refuses es st.stands)
 
 -- ---- room for the entry
 
 -- where the history is not full there is room
-below_limit : (old : KeptMember) → Full old ≡ false → old.limit ≢ 0 → length old.entries < old.limit
+below_limit : (old : Kept) → Full old ≡ false → old.limit ≢ 0 → length old.entries < old.limit
 below_limit old off some =
     leb-false old.limit (length old.entries) (sym (ap (λ (b : Bool). not b && nat_le old.limit (length old.entries)) (ne_eqb old.limit 0 some)) ∙ off)
 
@@ -128,7 +128,7 @@ with_one : (es : List EntryFields) (entry : Option EntryFields) → length (and_
 with_one es None = omega arith
 with_one es (Some e) = omega (arith, length-append es (e ∷ []))
 
-fits_when : (old : KeptMember) (call : Call) (entry : Option EntryFields) → IsKept old → (Full old ≡ false) ⊎ OnEachCore old.core (λ m. entry_by m call ≡ None) → OnEachCore old.core (λ m. entry_by m call ≡ entry)
+fits_when : (old : Kept) (call : Call) (entry : Option EntryFields) → IsKept old → (Full old ≡ false) ⊎ OnEachCore old.core (λ m. entry_by m call ≡ None) → OnEachCore old.core (λ m. entry_by m call ≡ entry)
     → old.limit ≢ 0 → length (and_entry old.entries entry) ≤ old.limit
 fits_when old call entry kept (inl off) noted some = let below = below_limit old off some in omega (arith, below, with_one old.entries entry)
 fits_when old call entry kept (inr none) noted some =
@@ -137,13 +137,13 @@ fits_when old call entry kept (inr none) noted some =
     subst (λ (o : Option EntryFields). length (and_entry old.entries o) ≤ old.limit) nothing h.few
 
 -- there is room for an entry, or none is added
-pub has_room_or_none : (old : KeptMember) (call : Call) (may_enter : Bool) (entry : Option EntryFields) → (may_enter ≡ true → Full old ≡ false) → (may_enter ≡ false → entry ≡ None)
+pub has_room_or_none : (old : Kept) (call : Call) (may_enter : Bool) (entry : Option EntryFields) → (may_enter ≡ true → Full old ≡ false) → (may_enter ≡ false → entry ≡ None)
     → OnEachCore old.core (λ m. entry_by m call ≡ entry) → (Full old ≡ false) ⊎ OnEachCore old.core (λ m. entry_by m call ≡ None)
 has_room_or_none old call true entry below none noted = inl (below refl)
 has_room_or_none old call false entry below none noted = inr (λ es s. noted es s ∙ none refl)
 
 -- what a call did to what is kept
-pub record Did (call : Call) (old new : KeptMember) (after : List Event) (entry : Option EntryFields) : Type 0 where
+pub record Did (call : Call) (old new : Kept) (after : List Event) (entry : Option EntryFields) : Type 0 where
   pub kept : IsKept old
   pub goes : CoreGoesOn call old.core new.core
   pub limit : new.limit ≡ old.limit
@@ -153,7 +153,7 @@ pub record Did (call : Call) (old new : KeptMember) (after : List Event) (entry 
 
 -- ---- a cast
 
-module _ (old new : KeptMember) (load : Load) (frame : List ℕ) (after : List Event) (entry : EntryFields) (did : Did (ToCast load) old new after (Some entry)) (room : Full old ≡ false)
+module _ (old new : Kept) (load : Load) (frame : List ℕ) (after : List Event) (entry : EntryFields) (did : Did (ToCast load) old new after (Some entry)) (room : Full old ≡ false)
     (answer : OnEachCore old.core (λ m. answer_to_cast m load ≡ Ok (next_in m load)))
     (joins : OnEachCore old.core (λ m. after ≡ old.events ++ new_events m.seat (facts_in m) (OwnCast (next_in m load)))) where
   cast_answer_is : OnEach old (λ m. answer_to_cast m load ≡ Ok (next_in m load))
@@ -200,7 +200,7 @@ all_said (takens.Accepted delivered changed out) messages count = refl
 all_said takens.Repeat [] count = refl
 all_said takens.Repeat (m ∷ messages) count = absurd cc
 
-module _ (old new : KeptMember) (bytes : List ℕ) (r : taken.Received) (messages : List Message) (after : List Event) (entry : Option EntryFields) (did : Did (ToTake bytes) old new after entry)
+module _ (old new : Kept) (bytes : List ℕ) (r : taken.Received) (messages : List Message) (after : List Event) (entry : Option EntryFields) (did : Did (ToTake bytes) old new after entry)
     (room : (Full old ≡ false) ⊎ OnEachCore old.core (λ m. entry_by m (ToTake bytes) ≡ None))
     (joins : JoinsAs messages old.events after) (count : count_said r ≡ length messages)
     (done : OnEachCore old.core (λ m. HasReceivedWith m (state_after m (ToTake bytes)) bytes r messages)) where
@@ -245,7 +245,7 @@ module _ (old new : KeptMember) (bytes : List ℕ) (r : taken.Received) (message
 
 -- ---- a tick
 
-module _ (old new : KeptMember) (ticked : Ticked) (entry : Option EntryFields) (did : Did ToTick old new old.events entry)
+module _ (old new : Kept) (ticked : Ticked) (entry : Option EntryFields) (did : Did ToTick old new old.events entry)
     (room : (Full old ≡ false) ⊎ OnEachCore old.core (λ m. false ≡ is_new_status m.seat (facts_in m)))
     (done : OnEachCore old.core (λ m. HasTickedSo m (state_after m ToTick) ticked)) where
   free_tick : OnEach old (λ m. answer_to_tick m ≡ answer_to_tick (unlimited m.seat m.entries))

@@ -4,14 +4,14 @@ use Rattle.cb_history.specs.declared.answer.CastRefusal.TheVariants as casts
 use Rattle.cb_history.specs.CastFault.{fault_told}
 use Rattle.cb_history.specs.Facts.{entry_fields}
 use Rattle.cb_history.specs.Legal.{ToCast}
-use Rattle.cb_handle.specs.Kept.{KeptMember}
-use Rattle.cb_handle.proofs.Keeping.{entries_left, events_left, full_is}
-use Rattle.cb_handle.proofs.Forgetting.{Did, cast_kept, cast_lacks_memory, cast_refused_full, cast_refused_so, casts_so}
-use Rattle.cb_handle.proofs.kept.Kept.cast.Goals as goal
+use Rattle.cb_member.specs.Kept.{Kept}
+use Rattle.cb_member.proofs.Keeping.{entries_left, events_left, full_is}
+use Rattle.cb_member.proofs.Forgetting.{Did, cast_kept, cast_lacks_memory, cast_refused_full, cast_refused_so, casts_so}
+use Rattle.cb_member.proofs.kept.Kept.cast.Goals as goal
 
 pub returns-then-is_full-clause-refused : goal.returns-then-is_full-clause-refused
 returns-then-is_full-clause-refused c =
-    let old : KeptMember = record { core = c.self.inside.core; limit = c.self.inside.limit; entries = map entry_fields c.self.inside.entries.items; events = c.self.inside.events.items } in
+    let old : Kept = record { core = c.self.inside.core; limit = c.self.inside.limit; entries = map entry_fields c.self.inside.entries.items; events = c.self.inside.events.items } in
     rw (← c.self.view_is) (cast_refused_full fault_told casts.NoMemory old (One c.args.payload.now) casts.HistoryFull c.refusal_or.result refl (full_is c.self.inside.limit c.self.inside.entries.items c.is_full.result true c.is_full.ensures c.if-is_full.true) c.refusal_or.ensures)
 
 pub invariant_of-self : goal.invariant_of-self
@@ -19,13 +19,13 @@ invariant_of-self c = rw c.make_room.ensures.items c.self.invariant
 
 pub returns-in_default-clause-refused : goal.returns-in_default-clause-refused
 returns-in_default-clause-refused c =
-    let old : KeptMember = record { core = c.self.inside.core; limit = c.self.inside.limit; entries = map entry_fields c.self.inside.entries.items; events = c.self.inside.events.items } in
+    let old : Kept = record { core = c.self.inside.core; limit = c.self.inside.limit; entries = map entry_fields c.self.inside.entries.items; events = c.self.inside.events.items } in
     rw (← c.self.view_is) (cast_lacks_memory fault_told casts.NoMemory old (One c.args.payload.now) c.refusal_or-in_default.result (full_is c.self.inside.limit c.self.inside.entries.items c.is_full.result false c.is_full.ensures c.if-is_full.false) c.refusal_or-in_default.ensures)
 
 pub invariant_of-self-in-Ok-cast_into : goal.invariant_of-self-in-Ok-cast_into
 invariant_of-self-in-Ok-cast_into c =
-    let old : KeptMember = record { core = c.self.inside.core; limit = c.self.inside.limit; entries = map entry_fields c.self.inside.entries.items; events = c.self.inside.events.items } in
-    let new : KeptMember = record { core = c.cast_into.new.self; limit = c.self.inside.limit; entries = map entry_fields c.forget.new.list.items; events = c.forget-in-Ok-cast_into.new.list.items } in
+    let old : Kept = record { core = c.self.inside.core; limit = c.self.inside.limit; entries = map entry_fields c.self.inside.entries.items; events = c.self.inside.events.items } in
+    let new : Kept = record { core = c.cast_into.new.self; limit = c.self.inside.limit; entries = map entry_fields c.forget.new.list.items; events = c.forget-in-Ok-cast_into.new.list.items } in
     let did : Did (ToCast (One c.args.payload.now)) old new c.cast_into.new.events.items (Some (entry_fields c.in-Ok-cast_into.entry)) = record {
       kept = c.self.invariant;
       goes = c.in-Ok-cast_into.ensures.goes_on;
@@ -43,8 +43,8 @@ invariant_of-self-in-Err c = rw (c.in-Err.ensures.same, c.make_room.ensures.item
 
 pub returns-in-Ok-cast_into-clause-done : goal.returns-in-Ok-cast_into-clause-done
 returns-in-Ok-cast_into-clause-done c =
-    let old : KeptMember = record { core = c.self.inside.core; limit = c.self.inside.limit; entries = map entry_fields c.self.inside.entries.items; events = c.self.inside.events.items } in
-    let new : KeptMember = record { core = c.cast_into.new.self; limit = c.self.inside.limit; entries = map entry_fields c.forget.new.list.items; events = c.forget-in-Ok-cast_into.new.list.items } in
+    let old : Kept = record { core = c.self.inside.core; limit = c.self.inside.limit; entries = map entry_fields c.self.inside.entries.items; events = c.self.inside.events.items } in
+    let new : Kept = record { core = c.cast_into.new.self; limit = c.self.inside.limit; entries = map entry_fields c.forget.new.list.items; events = c.forget-in-Ok-cast_into.new.list.items } in
     let did : Did (ToCast (One c.args.payload.now)) old new c.cast_into.new.events.items (Some (entry_fields c.in-Ok-cast_into.entry)) = record {
       kept = c.self.invariant;
       goes = c.in-Ok-cast_into.ensures.goes_on;
@@ -59,5 +59,5 @@ returns-in-Ok-cast_into-clause-done c =
 
 pub returns-in-Err-clause-refused : goal.returns-in-Err-clause-refused
 returns-in-Err-clause-refused c =
-    let old : KeptMember = record { core = c.self.inside.core; limit = c.self.inside.limit; entries = map entry_fields c.self.inside.entries.items; events = c.self.inside.events.items } in
+    let old : Kept = record { core = c.self.inside.core; limit = c.self.inside.limit; entries = map entry_fields c.self.inside.entries.items; events = c.self.inside.events.items } in
     rw (← c.self.view_is) (cast_refused_so fault_told casts.NoMemory old (One c.args.payload.now) c.in-Err.refusal (full_is c.self.inside.limit c.self.inside.entries.items c.is_full.result false c.is_full.ensures c.if-is_full.false) c.in-Err.ensures.refused)

@@ -1,4 +1,4 @@
-//! A member, and beside it what can be read: its history and all events, or what its last call added.
+//! A member whose history is optional: a core, and beside it what can be read.
 
 ghost use Rattle.std.specs.Prelude.{◌≡◌, ◌≢◌, ◌↔◌, ◌⊎◌, ◌+◌, ◌≤◌, ◌<◌, ◌==◌, ◌&&◌, not, length, map, drop, nat_le, option_map, IfOk, IfErr, OnErr, None, Ok, Err, true, false, if◌then◌else◌};
 ghost use Rattle.cb_frames.specs.Fields.{One};
@@ -12,22 +12,28 @@ ghost use Rattle.cb_history.specs.State.{missing_in, stable_in, stable_of_in, ti
 ghost use Rattle.cb_member.specs.Casting.{RefusesBurstExactly, RefusesExactly};
 ghost use Rattle.cb_member.specs.Readings.{acknowledged_by_in, keeps_window_full_in, waiting_in, waits_for_in};
 ghost use Rattle.cb_member.specs.CoreCalls.{MayCast};
-ghost use Rattle.cb_handle.specs.Kept.{IsKept, OnEach, seat_of, events_of, entries_of, kept_of};
-ghost use Rattle.cb_handle.specs.Opening.{IsNew};
-ghost use Rattle.cb_handle.specs.Calling.{HasCast, HasTicked};
-ghost use Rattle.cb_handle.specs.Parts.{HasReceivedBehind};
+ghost use Rattle.cb_member.specs.Kept.{IsKept, OnEach, seat_of, events_of, entries_of, kept_of};
+ghost use Rattle.cb_member.specs.KeptCalls.{HasCast, HasReceivedBehind, HasTicked, IsNew};
 
+use crate::core_member::CoreMember;
+use crate::readings::Delayed;
+use crate::recorder::Received;
 use bytes::Bytes;
-use cb_history::{Identity, LONGEST_HISTORY};
-use cb_member::{
-    ArriveRefusal, BurstRefusal, CastRefusal, CoreMember, Delayed, Entry, Event, Group, HelpFault,
-    MissingFault, NewFault, Outgoing, Range, Received, TickRefusal, VectorTime,
+use cb_delay::Event;
+use cb_frames::Range;
+use cb_history::{
+    ArriveRefusal, BurstRefusal, CastRefusal, Entry, Group, HelpFault, Identity, LONGEST_HISTORY,
+    MissingFault, NewFault, Outgoing, TickRefusal,
 };
-use cb_times::make_room;
+use cb_times::{VectorTime, make_room};
 use std::alloc::Global;
 use std::marker::Model;
 
-/// A member, with its history where it keeps one.
+/// A member that keeps its history, or none where that may have no entries.
+///
+/// It is a core, and beside it the entries and events that can be read: with a history all so far,
+/// without one those of the last call. It answers as the member with each history that it may have,
+/// and after any refusal it is as it was.
 #[derive(Drop)]
 pub struct Kept {
     core: CoreMember,
@@ -40,9 +46,9 @@ pub struct Kept {
 }
 
 impl Model for Kept {
-    ghost use Rattle.cb_handle.specs.Kept.{IsKept, KeptMember, kept_code, kept_of};
+    ghost use Rattle.cb_member.specs.Kept.{IsKept, Kept, kept_code, kept_of};
 
-    ghost Value = { KeptMember };
+    ghost Value = { Kept };
 
     ghost coded = { kept_code };
 

@@ -12,12 +12,12 @@ use Rattle.cb_history.specs.Legal.{Call, and_entry}
 use Rattle.cb_history.specs.State.{entry_by, events_in, state_after}
 use Rattle.cb_history.specs.View.{view}
 use Rattle.cb_member.specs.CoreMember.{Core, GoesOn as CoreGoesOn, StandsFor, grown_by, unlimited}
-use Rattle.cb_handle.specs.Kept.{IsKept, KeptMember, OnEach, Stands, gone, limit_for, state_with}
-use Rattle.cb_handle.specs.Calling.{GoesOn}
-use Rattle.cb_handle.proofs.Limits.{is_some}
+use Rattle.cb_member.specs.Kept.{IsKept, Kept, OnEach, Stands, gone, limit_for, state_with}
+use Rattle.cb_member.specs.KeptCalls.{GoesOn}
+use Rattle.cb_member.proofs.Limits.{is_some}
 
 -- a call has added this entry, if any, and events behind those that were there; without a history those of before are gone
-pub record Adds (call : Call) (old new : KeptMember) (after : List Event) (entry : Option EntryFields) : Type 0 where
+pub record Adds (call : Call) (old new : Kept) (after : List Event) (entry : Option EntryFields) : Type 0 where
   pub kept : IsKept old
   pub goes : CoreGoesOn call old.core new.core
   pub limit : new.limit ≡ old.limit
@@ -69,7 +69,7 @@ entry_alone : (es : List EntryFields) (entry : Option EntryFields) → drop (len
 entry_alone es None = drop_all (length es) es (omega arith)
 entry_alone es (Some e) = drop_at es (e ∷ []) (length es) refl
 
-module _ (call : Call) (old new : KeptMember) (after : List Event) (entry : Option EntryFields) (a : Adds call old new after entry) where
+module _ (call : Call) (old new : Kept) (after : List Event) (entry : Option EntryFields) (a : Adds call old new after entry) where
   abbrev seat : Identity
   seat = old.core.seat
 

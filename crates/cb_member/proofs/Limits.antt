@@ -21,7 +21,7 @@ use Rattle.cb_history.specs.Facts.{EntryFields, facts_of}
 use Rattle.cb_history.specs.Group.{Identity}
 use Rattle.cb_history.specs.Legal.{arrive_entry, room_for_one, tick_entry}
 use Rattle.cb_history.proofs.Calls.{room_left}
-use Rattle.cb_handle.specs.Kept.{limit_for}
+use Rattle.cb_member.specs.Kept.{limit_for}
 
 -- ---- room
 

@@ -5,15 +5,15 @@ use Rattle.cb_history.specs.Facts.{entry_fields}
 use Rattle.cb_history.specs.Legal.{ToTick}
 use Rattle.cb_history.specs.State.{facts_in}
 use Rattle.cb_member.specs.CoreMember.{OnEach}
-use Rattle.cb_handle.specs.Kept.{KeptMember}
-use Rattle.cb_handle.proofs.Keeping.{entries_left, events_left, full_is}
-use Rattle.cb_handle.proofs.Forgetting.{Did, Full, tick_kept, tick_refused_full, ticks_so}
-use Rattle.cb_handle.proofs.kept.Kept.tick.Goals as goal
-use Rattle.cb_handle.proofs.kept.Kept.tick.Goals.{else-is_full-via-then-is_full+else-has_news, else-is_full-via-else-is_full}
+use Rattle.cb_member.specs.Kept.{Kept}
+use Rattle.cb_member.proofs.Keeping.{entries_left, events_left, full_is}
+use Rattle.cb_member.proofs.Forgetting.{Did, Full, tick_kept, tick_refused_full, ticks_so}
+use Rattle.cb_member.proofs.kept.Kept.tick.Goals as goal
+use Rattle.cb_member.proofs.kept.Kept.tick.Goals.{else-is_full-via-then-is_full+else-has_news, else-is_full-via-else-is_full}
 
 pub returns-then-has_news-clause-refused : goal.returns-then-has_news-clause-refused
 returns-then-has_news-clause-refused c =
-    let old : KeptMember = record { core = c.self.inside.core; limit = c.self.inside.limit; entries = map entry_fields c.self.inside.entries.items; events = c.self.inside.events.items } in
+    let old : Kept = record { core = c.self.inside.core; limit = c.self.inside.limit; entries = map entry_fields c.self.inside.entries.items; events = c.self.inside.events.items } in
     rw (← c.self.view_is) (tick_refused_full old (full_is c.self.inside.limit c.self.inside.entries.items c.is_full.result true c.is_full.ensures c.if-is_full.true)
     (λ es s. sym c.if-has_news.true ∙ c.has_news.ensures es s))
 
@@ -22,8 +22,8 @@ invariant_of-self c = rw c.make_room.ensures.items c.self.invariant
 
 pub invariant_of-self-in-Ok-tick_noted : goal.invariant_of-self-in-Ok-tick_noted
 invariant_of-self-in-Ok-tick_noted c =
-    let old : KeptMember = record { core = c.self.inside.core; limit = c.self.inside.limit; entries = map entry_fields c.self.inside.entries.items; events = c.self.inside.events.items } in
-    let new : KeptMember = record { core = c.tick_noted.new.self; limit = c.self.inside.limit; entries = map entry_fields c.forget.new.list.items; events = c.forget-in-Ok-tick_noted.new.list.items } in
+    let old : Kept = record { core = c.self.inside.core; limit = c.self.inside.limit; entries = map entry_fields c.self.inside.entries.items; events = c.self.inside.events.items } in
+    let new : Kept = record { core = c.tick_noted.new.self; limit = c.self.inside.limit; entries = map entry_fields c.forget.new.list.items; events = c.forget-in-Ok-tick_noted.new.list.items } in
     let room : (Full old ≡ false) ⊎ OnEach c.self.inside.core (λ m. false ≡ is_new_status m.seat (facts_in m)) =
     elim c.else-is_full.branch [
       | else-is_full-via-then-is_full+else-has_news w ↦ inr (λ es s. sym w.if-has_news.false ∙ w.has_news.ensures es s)
@@ -45,8 +45,8 @@ invariant_of-self-in-Err c = rw (c.in-Err.ensures.same, c.make_room.ensures.item
 
 pub returns-in-Ok-tick_noted-clause-done : goal.returns-in-Ok-tick_noted-clause-done
 returns-in-Ok-tick_noted-clause-done c =
-    let old : KeptMember = record { core = c.self.inside.core; limit = c.self.inside.limit; entries = map entry_fields c.self.inside.entries.items; events = c.self.inside.events.items } in
-    let new : KeptMember = record { core = c.tick_noted.new.self; limit = c.self.inside.limit; entries = map entry_fields c.forget.new.list.items; events = c.forget-in-Ok-tick_noted.new.list.items } in
+    let old : Kept = record { core = c.self.inside.core; limit = c.self.inside.limit; entries = map entry_fields c.self.inside.entries.items; events = c.self.inside.events.items } in
+    let new : Kept = record { core = c.tick_noted.new.self; limit = c.self.inside.limit; entries = map entry_fields c.forget.new.list.items; events = c.forget-in-Ok-tick_noted.new.list.items } in
     let room : (Full old ≡ false) ⊎ OnEach c.self.inside.core (λ m. false ≡ is_new_status m.seat (facts_in m)) =
     elim c.else-is_full.branch [
       | else-is_full-via-then-is_full+else-has_news w ↦ inr (λ es s. sym w.if-has_news.false ∙ w.has_news.ensures es s)

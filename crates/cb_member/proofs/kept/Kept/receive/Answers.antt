@@ -4,19 +4,19 @@ use Rattle.std.proofs.lemmas.List.{length-map}
 use Rattle.cb_history.specs.declared.history.Entry.{Entry}
 use Rattle.cb_history.specs.Facts.{entry_fields}
 use Rattle.cb_history.specs.Legal.{ToTake, and_entry}
-use Rattle.cb_handle.specs.Kept.{KeptMember}
-use Rattle.cb_handle.specs.Parts.{behind}
-use Rattle.cb_handle.proofs.Keeping.{full_is}
-use Rattle.cb_handle.proofs.Forgetting.{Did, arrival_refused_so, has_room_or_none, received_kept, receives_so}
-use Rattle.cb_handle.proofs.Parts.{count_is, entries_stay, events_stay, is_behind, kept_behind, left}
-use Rattle.cb_handle.proofs.kept.Kept.receive.Goals as goal
+use Rattle.cb_member.specs.Kept.{Kept}
+use Rattle.cb_member.specs.KeptCalls.{behind}
+use Rattle.cb_member.proofs.Keeping.{full_is}
+use Rattle.cb_member.proofs.Forgetting.{Did, arrival_refused_so, has_room_or_none, received_kept, receives_so}
+use Rattle.cb_member.proofs.Behind.{count_is, entries_stay, events_stay, is_behind, kept_behind, left}
+use Rattle.cb_member.proofs.kept.Kept.receive.Goals as goal
 
 pub invariant_of-self : goal.invariant_of-self
 invariant_of-self c =
-    let old : KeptMember = record { core = c.self.inside.core; limit = c.self.inside.limit; entries = map entry_fields c.self.inside.entries.items; events = c.self.inside.events.items } in
-    let new : KeptMember = record { core = c.receive_within.new.self; limit = c.self.inside.limit; entries = map entry_fields c.forget.new.list.items; events = c.forget-in-Ok.new.list.items } in
+    let old : Kept = record { core = c.self.inside.core; limit = c.self.inside.limit; entries = map entry_fields c.self.inside.entries.items; events = c.self.inside.events.items } in
+    let new : Kept = record { core = c.receive_within.new.self; limit = c.self.inside.limit; entries = map entry_fields c.forget.new.list.items; events = c.forget-in-Ok.new.list.items } in
     let noted = option_map entry_fields c.in-Ok.entry in
-    let after : KeptMember = record {
+    let after : Kept = record {
       core = c.receive_within.new.self;
       limit = c.self.inside.limit;
       entries = left c.self.inside.limit old.entries (and_entry old.entries noted);
@@ -47,10 +47,10 @@ invariant_of-self-in-Err c = rw (c.in-Err.ensures.same, c.has_room-may_enter.ens
 
 pub returns-in-Ok-clause-done : goal.returns-in-Ok-clause-done
 returns-in-Ok-clause-done c =
-    let old : KeptMember = record { core = c.self.inside.core; limit = c.self.inside.limit; entries = map entry_fields c.self.inside.entries.items; events = c.self.inside.events.items } in
-    let new : KeptMember = record { core = c.receive_within.new.self; limit = c.self.inside.limit; entries = map entry_fields c.forget.new.list.items; events = c.forget-in-Ok.new.list.items } in
+    let old : Kept = record { core = c.self.inside.core; limit = c.self.inside.limit; entries = map entry_fields c.self.inside.entries.items; events = c.self.inside.events.items } in
+    let new : Kept = record { core = c.receive_within.new.self; limit = c.self.inside.limit; entries = map entry_fields c.forget.new.list.items; events = c.forget-in-Ok.new.list.items } in
     let noted = option_map entry_fields c.in-Ok.entry in
-    let after : KeptMember = record {
+    let after : Kept = record {
       core = c.receive_within.new.self;
       limit = c.self.inside.limit;
       entries = left c.self.inside.limit old.entries (and_entry old.entries noted);
@@ -82,6 +82,6 @@ returns-in-Ok-clause-done c =
 
 pub returns-in-Err-clause-refused : goal.returns-in-Err-clause-refused
 returns-in-Err-clause-refused c =
-    let old : KeptMember = record { core = c.self.inside.core; limit = c.self.inside.limit; entries = map entry_fields c.self.inside.entries.items; events = c.self.inside.events.items } in
+    let old : Kept = record { core = c.self.inside.core; limit = c.self.inside.limit; entries = map entry_fields c.self.inside.entries.items; events = c.self.inside.events.items } in
     let full = full_is c.self.inside.limit c.self.inside.entries.items c.is_full-full.result c.is_full-full.result c.is_full-full.ensures refl in
     rw (← c.self.view_is) (arrival_refused_so old c.args.bytes.now c.has_room-may_enter.result c.is_full-full.result c.in-Err.refusal c.refused.result full c.in-Err.ensures.refused c.refused.ensures)
