@@ -19,6 +19,7 @@ pub mod Foreseeing
 pub mod Going
 pub mod HandingOn
 pub mod Hearing
+pub mod HelpRows
 pub mod Judging
 pub mod JudgingCasts
 pub mod NeverFull

@@ -9,6 +9,7 @@ pub mod Delivery
 pub mod Entering
 pub mod Foreseen
 pub mod Hearing
+pub mod Helping
 pub mod Knowledge
 pub mod Passing
 pub mod Readings
