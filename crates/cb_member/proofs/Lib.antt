@@ -3,6 +3,7 @@ pub mod Acknowledging
 pub mod Alike
 pub mod Answering
 pub mod Arriving
+pub mod Asking
 pub mod Awaiting
 pub mod Bursting
 pub mod Casting
