@@ -4,6 +4,7 @@ pub mod Adding
 pub mod Alike
 pub mod Answering
 pub mod Arriving
+pub mod Asking
 pub mod Awaiting
 pub mod Behind
 pub mod Bursting
@@ -22,6 +23,7 @@ pub mod Forgetting
 pub mod Going
 pub mod HandingOn
 pub mod Hearing
+pub mod HelpRows
 pub mod Judging
 pub mod JudgingCasts
 pub mod Keeping

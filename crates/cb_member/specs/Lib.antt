@@ -9,6 +9,7 @@ pub mod Delivery
 pub mod Entering
 pub mod Foreseen
 pub mod Hearing
+pub mod Helping
 pub mod Kept
 pub mod KeptCalls
 pub mod Knowledge

@@ -14,6 +14,7 @@ ghost use Rattle.cb_history.specs.Known.{ranges_of};
 ghost use Rattle.cb_history.specs.State.{time_in, stable_in, stable_of_in, missing_in, answer_to_cast, answer_to_help, entry_by, facts_in, next_in, state_after, HasCast, HasCastBurst, HasTicked, RefusesHelp, RefusesTick};
 ghost use Rattle.cb_member.specs.Casting.{RefusesBurstExactly, RefusesExactly};
 ghost use Rattle.cb_member.specs.CoreCalls.{HasEntryOnEach, JoinsAs, MayCast, ReceivesOnEach, RefusesOnEach, RefusesWithin, joined};
+ghost use Rattle.cb_member.specs.Helping.{answer_to_help_among, may_ask_among, RefusesHelpAmong};
 ghost use Rattle.cb_member.specs.Readings.{acknowledged_by_in, delivered_of_in, keeps_window_full_in, waiting_in, waits_for_in};
 ghost use Rattle.cb_member.specs.Received.{count_said};
 ghost use Rattle.cb_member.specs.CoreMember.{GoesOn, OnEach, StandsFor};
@@ -203,6 +204,21 @@ impl CoreMember {
         ensures { IfOk result (λ out. OnEach self.now (λ m. answer_to_help m i ≡ Ok out)) }
     {
         self.state.help(i)
+    }
+
+    /// The frame of `help`, but to the first of these members that is known to have the message: leave out who is silent. Member i and
+    /// this one are passed over. Nothing changes.
+    ///
+    /// `BadMember` as `help` has it, or where one of these is no member of the group; that takes no memory.
+    pub fn help_among(&self, i: u32, members: &[u32]) -> Result<Option<Outgoing>, HelpFault>
+        ensures asked { IfOk result (λ out. OnEach self.now (λ m.
+            answer_to_help_among m i members.now ≡ Ok out)) }
+        ensures refused { IfErr result (λ fault. OnEach self.now (λ m.
+            RefusesHelpAmong m i members.now fault)) }
+        ensures bad_member { (result ≡ Err HelpFault.BadMember)
+            ↔ (may_ask_among self.now.seat i members.now ≡ false) }
+    {
+        self.state.help_among(i, members)
     }
 
     /// Casts a message of this payload, of up to 1,024 bytes, and answers its name, its time and

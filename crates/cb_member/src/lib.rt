@@ -41,7 +41,7 @@ pub use cb_history::{
 pub use cb_times::{NoMemory, TimeOrder, VectorTime};
 pub use core_member::CoreMember;
 pub use kept::Kept;
-pub use laws::cores_answer_by_their_history;
+pub use laws::{cores_answer_by_their_history, help_goes_to_one_of_these};
 pub use member::Member;
 pub use readings::{Awaited, Delayed};
 pub use recorder::Received;

@@ -10,6 +10,7 @@ ghost use Rattle.cb_history.specs.Load.{many_of};
 ghost use Rattle.cb_history.specs.Known.{ranges_of};
 ghost use Rattle.cb_history.specs.State.{IsMemberState, state_of, time_in, events_in, stable_in, stable_of_in, missing_in, answer_to_help, entry_by, HasCast, HasCastBurst, HasTaken, RefusesArrival, HasTicked, RefusesHelp, RefusesTick};
 ghost use Rattle.cb_member.specs.Casting.{RefusesExactly, RefusesBurstExactly};
+ghost use Rattle.cb_member.specs.Helping.{answer_to_help_among, RefusesHelpAmong};
 ghost use Rattle.cb_member.specs.Readings.{acknowledged_by_in, delivered_of_in, keeps_window_full_in, waiting_in, waits_for_in};
 ghost use Rattle.cb_member.specs.Received.{HasReceivedFrame, HasTakenToSend};
 
@@ -205,6 +206,17 @@ impl Member {
         ensures { IfOk result (λ out. answer_to_help self.now i ≡ Ok out) }
     {
         self.recorder.state.help(i)
+    }
+
+    /// The frame of `help`, but to the first of these members that is known to have the message: leave out who is silent. Member i and
+    /// this one are passed over. Nothing changes.
+    ///
+    /// `BadMember` as `help` has it, or where one of these is no member of the group; that takes no memory.
+    pub fn help_among(&self, i: u32, members: &[u32]) -> Result<Option<Outgoing>, HelpFault>
+        ensures asked { IfOk result (λ out. answer_to_help_among self.now i members.now ≡ Ok out) }
+        ensures refused { IfErr result (RefusesHelpAmong self.now i members.now) }
+    {
+        self.recorder.state.help_among(i, members)
     }
 
     /// Casts a message of this payload, of up to 1,024 bytes, and answers its name, its time and the frame that goes to all others.
