@@ -9,8 +9,8 @@ use Rattle.cb_handle.specs.declared.held.LoadedRefusal.{LoadedRefusal}
 use Rattle.cb_handle.specs.declared.held.LoadedRefusal.TheVariants.{Refused}
 use Rattle.std.proofs.lemmas.List.{drop_more, nil_from_length, take_more}
 use Rattle.cb_history.specs.declared.answer.Outgoing.{Outgoing}
-use Rattle.cb_member.specs.declared.recorder.taken.Received as taken
-use Rattle.cb_member.specs.declared.recorder.taken.Received.TheVariants as takens
+use Rattle.cb_member.specs.declared.received.Received as taken
+use Rattle.cb_member.specs.declared.received.Received.TheVariants as takens
 use Rattle.cb_member.specs.KeptCalls.{HasReceivedBehind, Tells}
 use Rattle.cb_member.specs.Received.{received_says, sent_by}
 use Rattle.cb_history.specs.Answers.{ArrivalSays}

@@ -10,8 +10,8 @@ use Rattle.cb_history.specs.Facts.{EntryFields}
 use Rattle.cb_history.specs.Group.{Identity}
 use Rattle.cb_history.specs.Legal.{ToTake}
 use Rattle.cb_history.specs.State.{MemberState, answer_to_arrival, answer_to_help}
-use Rattle.cb_member.specs.declared.recorder.taken.Received as taken
-use Rattle.cb_member.specs.declared.recorder.taken.Received.TheVariants as takens
+use Rattle.cb_member.specs.declared.received.Received as taken
+use Rattle.cb_member.specs.declared.received.Received.TheVariants as takens
 use Rattle.cb_member.specs.Kept as kept
 use Rattle.cb_member.specs.KeptCalls.{GoesOn, HasCast, HasTicked}
 use Rattle.cb_member.specs.Received.{sent_by}

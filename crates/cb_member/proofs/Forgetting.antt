@@ -1,6 +1,6 @@
 -- What each call of a core adds, and what a member answers by it.
 use Rattle.std.proofs.Common.{◌≡◌, ◌≢◌, ◌⊎◌, ℕ, ◌+◌, ◌≤◌, ◌<◌, Bool, true, false, ◌&&◌, not, ◌==◌, List, [], ◌∷◌, ◌++◌, length, drop, map, Option, Some, None, Result, Ok, Err, refl, sym, ap, subst, ◌∙◌, arith, inl, inr}
-use Rattle.std.specs.Prelude.{IsOk, if◌then◌else◌, nat_le}
+use Rattle.std.specs.Prelude.{IsOk, if◌then◌else◌, nat_le, option_map}
 use Rattle.std.proofs.lemmas.Bool.{leb-false, ne_eqb}
 use Rattle.std.proofs.lemmas.List.{append-nil, length-append}
 use Rattle.cb_frames.specs.Fields.{Load, CastFields, CastFrame, StatusFrame}
@@ -10,26 +10,28 @@ use Rattle.cb_delay.specs.declared.message.Event.TheVariants as events
 use Rattle.cb_delay.specs.declared.message.Message.{Message}
 use Rattle.cb_history.specs.declared.answer.ArriveRefusal.{ArriveRefusal}
 use Rattle.cb_history.specs.declared.answer.ArriveRefusal.TheVariants as refusals
-use Rattle.cb_history.specs.declared.answer.Ticked.{Ticked}
 use Rattle.cb_history.specs.declared.answer.TickRefusal.{TickRefusal}
 use Rattle.cb_history.specs.declared.answer.TickRefusal.TheVariants as ticks
 use Rattle.cb_history.specs.Answers.{ArrivalSays, is_full, is_new_status, next_cast, status_of}
 use Rattle.cb_history.specs.Events as listed
 use Rattle.cb_history.specs.CastFault.{CastFault, HistoryFull, IsFault}
 use Rattle.cb_history.specs.EventLaws.{new_events}
-use Rattle.cb_history.specs.Facts.{EntryFields, OwnCast, CastEntry, TickEntry, facts_of}
+use Rattle.cb_history.specs.Facts.{EntryFields, OwnCast, CastEntry, TickEntry, entry_fields, facts_of}
 use Rattle.cb_history.specs.Group.{Identity}
 use Rattle.cb_history.specs.Legal.{AreEntriesOf, Call, ToCast, ToTake, ToTick, and_entry, arrive_entry, cast_entry, tick_entry, room_for_one}
 use Rattle.cb_history.specs.LegalFacts.{AreFactsOf}
 use Rattle.cb_history.specs.State.{MemberState, HasTicked as HasTickedSo, RefusesArrival, RefusesTick, answer_to_arrival, answer_to_cast, answer_to_tick, entry_by, events_in, facts_in, next_in, state_after}
 use Rattle.cb_history.proofs.Histories.{entries_say_legal_facts}
-use Rattle.cb_member.specs.declared.recorder.taken.Received as taken
-use Rattle.cb_member.specs.declared.recorder.taken.Received.TheVariants as takens
+use Rattle.cb_member.specs.declared.received.Received as taken
+use Rattle.cb_member.specs.declared.received.Received.TheVariants as takens
+use Rattle.cb_member.specs.declared.wanted.Made.{Made}
+use Rattle.cb_member.specs.declared.wanted.Told.{Told}
+use Rattle.cb_member.specs.declared.wanted.Wanted.{Wanted}
 use Rattle.cb_member.specs.CoreMember.{Core, GoesOn as CoreGoesOn, OnEach as OnEachCore, StandsFor, grown_by, unlimited}
-use Rattle.cb_member.specs.CoreCalls.{HasReceivedWith, JoinsAs, MayCast, RefusesWithin}
+use Rattle.cb_member.specs.CoreCalls.{HasReceivedWith, JoinsAs, MayCast, RefusesWithin, TellsCast}
 use Rattle.cb_member.specs.Received.{count_said, deliveries_in, received_says}
 use Rattle.cb_member.specs.Kept.{IsKept, Kept, OnEach, Stands, limit_of, state_with}
-use Rattle.cb_member.specs.KeptCalls.{HasCast, HasReceived, HasTicked, Tells}
+use Rattle.cb_member.specs.KeptCalls.{HasMade, HasReceived, HasTold, Tells}
 use Rattle.cb_member.proofs.Adding.{arrival_adds, cast_adds, tick_adds}
 use Rattle.cb_member.proofs.Keeping.{Adds, goes_on, is_kept}
 use Rattle.cb_member.proofs.Limits.{arrival_full, arrival_read, arrival_refused, arrival_same, arrival_silent, cast_full, cast_refused, cast_same, no_room_is_left, room_is_left, tick_full, tick_enters_none, tick_refused, tick_same, tick_silent}
@@ -153,7 +155,7 @@ pub record Did (call : Call) (old new : Kept) (after : List Event) (entry : Opti
 
 -- ---- a cast
 
-module _ (old new : Kept) (load : Load) (frame : List ℕ) (after : List Event) (entry : EntryFields) (did : Did (ToCast load) old new after (Some entry)) (room : Full old ≡ false)
+module _ (old new : Kept) (load : Load) (after : List Event) (entry : EntryFields) (did : Did (ToCast load) old new after (Some entry)) (room : Full old ≡ false)
     (answer : OnEachCore old.core (λ m. answer_to_cast m load ≡ Ok (next_in m load)))
     (joins : OnEachCore old.core (λ m. after ≡ old.events ++ new_events m.seat (facts_in m) (OwnCast (next_in m load)))) where
   cast_answer_is : OnEach old (λ m. answer_to_cast m load ≡ Ok (next_in m load))
@@ -181,11 +183,13 @@ module _ (old new : Kept) (load : Load) (frame : List ℕ) (after : List Event) 
   pub cast_kept : IsKept new
   cast_kept = is_kept (ToCast load) old new after (Some entry) cast_did
 
-  pub casts_so : OnEachCore old.core (λ m. frame ≡ text_of (CastFrame (next_in m load))) → HasCast old new load frame
-  casts_so frame_is = record {
-    answer = cast_answer_is;
-    frame_is = λ es st. frame_is es st.stands;
-    goes_on = goes_on (ToCast load) old new after (Some entry) cast_did;
+  pub casts_so : (wanted : Wanted) (made : Made) → OnEachCore old.core (λ m. made.out ≡ text_of (CastFrame (next_in m load))) → (wanted.answer ≡ true → TellsCast load old.core made)
+      → (wanted.entry ≡ true → option_map entry_fields made.noted ≡ Some entry) → HasMade wanted old new load made
+  casts_so wanted made frame_is told noted = record {
+    kept = cast_kept;
+    cast = record { answer = cast_answer_is; frame_is = λ es st. frame_is es st.stands; goes_on = goes_on (ToCast load) old new after (Some entry) cast_did };
+    told = λ want. let t = told want in (t.time, t.time_is, λ es st. t.done es st.stands);
+    noted = λ want es st. cast_did.same es st ∙ sym (noted want);
   }
 
 -- ---- received bytes
@@ -232,6 +236,9 @@ module _ (old new : Kept) (bytes : List ℕ) (r : taken.Received) (messages : Li
         );
   }
 
+  pub entry_is : (noted : Option EntryFields) → OnEachCore old.core (λ m. entry_by m (ToTake bytes) ≡ noted) → OnEach old (λ m. entry_by m (ToTake bytes) ≡ noted)
+  entry_is noted on es st = ap (arrive_entry bytes) (free_arrival es st) ∙ on es st.stands
+
   pub received_kept : IsKept new
   received_kept = is_kept (ToTake bytes) old new after entry received_did
 
@@ -243,11 +250,15 @@ module _ (old new : Kept) (bytes : List ℕ) (r : taken.Received) (messages : Li
     goes_on = goes_on (ToTake bytes) old new after entry received_did;
   }
 
+  pub copies_said : (copies : List Message) → copies ≡ messages → copies ≡ deliveries_in receives_so.says
+  unfolding receives_so
+  copies_said copies are = are ∙ sym (all_said r messages count)
+
 -- ---- a tick
 
-module _ (old new : Kept) (ticked : Ticked) (entry : Option EntryFields) (did : Did ToTick old new old.events entry)
+module _ (old new : Kept) (told : Told) (entry : Option EntryFields) (did : Did ToTick old new old.events entry)
     (room : (Full old ≡ false) ⊎ OnEachCore old.core (λ m. false ≡ is_new_status m.seat (facts_in m)))
-    (done : OnEachCore old.core (λ m. HasTickedSo m (state_after m ToTick) ticked)) where
+    (done : OnEachCore old.core (λ m. HasTickedSo m (state_after m ToTick) told.ticked)) where
   free_tick : OnEach old (λ m. answer_to_tick m ≡ answer_to_tick (unlimited m.seat m.entries))
   free_tick es st = elim room [
     | inl off ↦ tick_same old.core.seat (limit_of old es) es (has_room old off es st)
@@ -273,21 +284,22 @@ module _ (old new : Kept) (ticked : Ticked) (entry : Option EntryFields) (did : 
     adds = λ es s.
         let seat = old.core.seat in
         let status : List ℕ = text_of (StatusFrame (status_of seat (facts_of es))) in
-        let o : Option EntryFields = if ticked.entered then Some (TickEntry status) else None in
+        let o : Option EntryFields = if told.ticked.entered then Some (TickEntry status) else None in
         let is : entry_by (unlimited seat es) ToTick ≡ o = ap (tick_entry status) (done es s).answer in (
           [],
           sym (append-nil old.events),
           sym (ap (λ (x : Option EntryFields). listed.events seat (facts_of (and_entry es x))) is
-              ∙ tick_adds seat es ticked.entered (facts_before old.core new.core ToTick did.goes es s) (legal_after old.core new.core ToTick did.goes es s o is)),
+              ∙ tick_adds seat es told.ticked.entered (facts_before old.core new.core ToTick did.goes es s) (legal_after old.core new.core ToTick did.goes es s o is)),
         );
   }
 
   pub tick_kept : IsKept new
   tick_kept = is_kept ToTick old new old.events entry tick_did
 
-  pub ticks_so : HasTicked old new ticked.out.items
-  ticks_so = record {
-    entered = ticked.entered;
+  pub ticks_so : (wanted : Wanted) → (wanted.entry ≡ true → option_map entry_fields told.noted ≡ entry) → HasTold wanted old new told
+  ticks_so wanted noted = record {
+    kept = tick_kept;
     answer = λ es st. free_tick es st ∙ (done es st.stands).answer;
     goes_on = goes_on ToTick old new old.events entry tick_did;
+    noted = λ want es st. tick_did.same es st ∙ sym (noted want);
   }

@@ -33,7 +33,7 @@ pub joined : (es : List EntryFields) (o : Option EntryFields) → es ++ and_entr
 joined es None = append-nil es
 joined es (Some e) = refl
 
-no_events : (seat : Identity) → events seat [] ≡ []
+pub no_events : (seat : Identity) → events seat [] ≡ []
 unfolding view
 no_events seat = refl
 

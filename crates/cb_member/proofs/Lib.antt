@@ -2,7 +2,6 @@ pub mod Accepting
 pub mod Acknowledging
 pub mod Adding
 pub mod Alike
-pub mod Answering
 pub mod Arriving
 pub mod Asking
 pub mod Awaiting
@@ -17,7 +16,6 @@ pub mod Cores
 pub mod Counted
 pub mod Courses
 pub mod Draining
-pub mod Entering
 pub mod Foreseeing
 pub mod Forgetting
 pub mod Going
@@ -31,13 +29,14 @@ pub mod KeptRows
 pub mod Limits
 pub mod NeverFull
 pub mod OwnCasts
+pub mod Made
+pub mod Members
 pub mod Passing
 pub mod Putting
 pub mod Reading
 pub mod ReadingRows
 pub mod Ready
 pub mod Receiving
-pub mod Recording
 pub mod Rising
 pub mod Starting
 pub mod Staying

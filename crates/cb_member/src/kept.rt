@@ -10,14 +10,17 @@ ghost use Rattle.cb_history.specs.Facts.{entry_fields};
 ghost use Rattle.cb_history.specs.Legal.{and_entry, longest_history};
 ghost use Rattle.cb_history.specs.State.{missing_in, stable_in, stable_of_in, time_in, answer_to_help, RefusesArrival, RefusesHelp, RefusesTick};
 ghost use Rattle.cb_member.specs.Casting.{RefusesBurstExactly, RefusesExactly};
-ghost use Rattle.cb_member.specs.Readings.{acknowledged_by_in, keeps_window_full_in, waiting_in, waits_for_in};
+ghost use Rattle.cb_member.specs.Readings.{acknowledged_by_in, delivered_of_in, keeps_window_full_in, waiting_in, waits_for_in};
 ghost use Rattle.cb_member.specs.CoreCalls.{MayCast};
+ghost use Rattle.cb_member.specs.Helping.{answer_to_help_among, may_ask_among, RefusesHelpAmong};
 ghost use Rattle.cb_member.specs.Kept.{IsKept, OnEach, seat_of, events_of, entries_of, kept_of};
-ghost use Rattle.cb_member.specs.KeptCalls.{HasCast, HasReceivedBehind, HasTicked, IsNew};
+ghost use Rattle.cb_member.specs.KeptCalls.{HasCast, HasMade, HasReceivedBehind, HasReceivedWanting, HasTicked, HasTold, IsNew};
 
 use crate::core_member::CoreMember;
+use crate::core_member::arriving::{Asked, Noting};
 use crate::readings::Delayed;
-use crate::recorder::Received;
+use crate::received::Received;
+use crate::wanted::{Made, Taken, Told, Wanted};
 use bytes::Bytes;
 use cb_delay::Event;
 use cb_frames::Range;
@@ -107,6 +110,23 @@ impl Kept {
             RefusesExactly m (One payload.now) refusal)) }
         ensures same { OnErr result (self.new ≡ self.old) }
     {
+        match self.cast_wanting(payload, Wanted::NOTHING) {
+            Ok(made) => Ok(made.frame()),
+            Err(refusal) => Err(refusal),
+        }
+    }
+
+    /// Casts a payload as `cast` does, and tells of the cast, with the copies that are wanted.
+    pub(crate) fn cast_wanting(
+        &mut self,
+        payload: &[u8],
+        wanted: Wanted,
+    ) -> Result<Made, CastRefusal>
+        ensures done { IfOk result (HasMade wanted self.old self.new (One payload.now)) }
+        ensures refused { IfErr result (λ refusal. OnEach self.old (λ m.
+            RefusesExactly m (One payload.now) refusal)) }
+        ensures same { OnErr result (self.new ≡ self.old) }
+    {
         if is_full(self.limit, &self.entries) {
             return Err(refusal_or(&self.core, payload, CastRefusal::HistoryFull));
         }
@@ -114,12 +134,12 @@ impl Kept {
             return Err(refusal_or(&self.core, payload, CastRefusal::NoMemory));
         };
         let (events, entries) = (self.events.len(), self.entries.len());
-        match self.core.cast_into(payload, &mut self.events) {
-            Ok((frame, entry)) => {
+        match self.core.cast_wanting(payload, wanted, &mut self.events) {
+            Ok((made, entry)) => {
                 enter(&mut self.entries, Some(entry));
                 forget(self.limit, &mut self.entries, entries);
                 forget(self.limit, &mut self.events, events);
-                Ok(frame)
+                Ok(made)
             }
             Err(refusal) => Err(refusal),
         }
@@ -132,6 +152,23 @@ impl Kept {
             RefusesBurstExactly m (many_of payloads.now) refusal)) }
         ensures same { OnErr result (self.new ≡ self.old) }
     {
+        match self.cast_burst_wanting(payloads, Wanted::NOTHING) {
+            Ok(made) => Ok(made.frame()),
+            Err(refusal) => Err(refusal),
+        }
+    }
+
+    /// Casts a burst as `cast_burst` does, and tells of it, with the copies that are wanted.
+    pub(crate) fn cast_burst_wanting(
+        &mut self,
+        payloads: &[&[u8]],
+        wanted: Wanted,
+    ) -> Result<Made, BurstRefusal>
+        ensures done { IfOk result (HasMade wanted self.old self.new (many_of payloads.now)) }
+        ensures refused { IfErr result (λ refusal. OnEach self.old (λ m.
+            RefusesBurstExactly m (many_of payloads.now) refusal)) }
+        ensures same { OnErr result (self.new ≡ self.old) }
+    {
         if is_full(self.limit, &self.entries) {
             return Err(burst_refusal_or(&self.core, payloads, BurstRefusal::HistoryFull));
         }
@@ -139,12 +176,15 @@ impl Kept {
             return Err(burst_refusal_or(&self.core, payloads, BurstRefusal::NoMemory));
         };
         let (events, entries) = (self.events.len(), self.entries.len());
-        match self.core.cast_burst_into(payloads, &mut self.events) {
-            Ok((frame, entry)) => {
+        match self
+            .core
+            .cast_burst_wanting(payloads, wanted, &mut self.events)
+        {
+            Ok((made, entry)) => {
                 enter(&mut self.entries, Some(entry));
                 forget(self.limit, &mut self.entries, entries);
                 forget(self.limit, &mut self.events, events);
-                Ok(frame)
+                Ok(made)
             }
             Err(refusal) => Err(refusal),
         }
@@ -158,16 +198,36 @@ impl Kept {
             RefusesArrival m bytes.now refusal)) }
         ensures same { OnErr result (self.new ≡ self.old) }
     {
+        match self.receive_wanting(bytes, stays, Wanted::NOTHING) {
+            Ok(taken) => Ok(taken.received()),
+            Err(refusal) => Err(refusal),
+        }
+    }
+
+    /// Takes received bytes as `receive` does, with the copies that are wanted.
+    pub(crate) fn receive_wanting(
+        &mut self,
+        bytes: &Bytes,
+        stays: bool,
+        wanted: Wanted,
+    ) -> Result<Taken, ArriveRefusal>
+        ensures done { IfOk result (HasReceivedWanting wanted stays self.old self.new bytes.now) }
+        ensures refused { IfErr result (λ refusal. OnEach self.old (λ m.
+            RefusesArrival m bytes.now refusal)) }
+        ensures same { OnErr result (self.new ≡ self.old) }
+    {
         let full = is_full(self.limit, &self.entries);
         let may_enter = has_room(full, &mut self.entries);
         let events = earlier(stays, &self.events);
         let entries = earlier(stays, &self.entries);
-        match self.core.receive_within(bytes, may_enter, &mut self.events) {
-            Ok((received, entry)) => {
+        let noting = Noting::within(may_enter);
+        let asked = Asked { noting, wanted };
+        match self.core.receive_wanting(bytes, asked, &mut self.events) {
+            Ok((taken, entry)) => {
                 enter(&mut self.entries, entry);
                 forget(self.limit, &mut self.entries, entries);
                 forget(self.limit, &mut self.events, events);
-                Ok(received)
+                Ok(taken)
             }
             Err(refusal) => Err(refused(full, refusal)),
         }
@@ -179,6 +239,18 @@ impl Kept {
         ensures refused { IfErr result (λ refusal. OnEach self.old (λ m. RefusesTick m refusal)) }
         ensures same { OnErr result (self.new ≡ self.old) }
     {
+        match self.tick_wanting(Wanted::NOTHING) {
+            Ok(told) => Ok(told.ticked().out),
+            Err(refusal) => Err(refusal),
+        }
+    }
+
+    /// Ticks as `tick` does, and tells whether the status is new, with the copy that is wanted.
+    pub(crate) fn tick_wanting(&mut self, wanted: Wanted) -> Result<Told, TickRefusal>
+        ensures done { IfOk result (HasTold wanted self.old self.new) }
+        ensures refused { IfErr result (λ refusal. OnEach self.old (λ m. RefusesTick m refusal)) }
+        ensures same { OnErr result (self.new ≡ self.old) }
+    {
         if is_full(self.limit, &self.entries) && self.core.has_news() {
             return Err(TickRefusal::HistoryFull);
         }
@@ -186,12 +258,12 @@ impl Kept {
             return Err(TickRefusal::NoMemory);
         };
         let (events, entries) = (self.events.len(), self.entries.len());
-        match self.core.tick_noted() {
-            Ok((ticked, entry)) => {
+        match self.core.tick_wanting(wanted) {
+            Ok((told, entry)) => {
                 enter(&mut self.entries, entry);
                 forget(self.limit, &mut self.entries, entries);
                 forget(self.limit, &mut self.events, events);
-                Ok(ticked.out)
+                Ok(told)
             }
             Err(refusal) => Err(refusal),
         }
@@ -209,6 +281,26 @@ impl Kept {
         ensures { map entry_fields result.now ≡ entries_of self.now }
     {
         self.entries.as_slice()
+    }
+
+    /// The entries that are to be read, for good.
+    pub(crate) fn into_entries(self) -> Vec<Entry>
+        ensures { map entry_fields result.items ≡ entries_of self }
+    {
+        let Kept {
+            core,
+            limit: _,
+            entries,
+            events,
+        } = self;
+        drop(core);
+        drop(events);
+        entries
+    }
+
+    /// Where its lists lie.
+    pub(crate) fn alloc(&self) -> Global {
+        *self.entries.allocator()
     }
 
     /// How many messages of each member are delivered.
@@ -230,6 +322,13 @@ impl Kept {
         ensures { OnEach self.now (λ m. result ≡ stable_of_in m member) }
     {
         self.core.stable_of(member)
+    }
+
+    /// How many messages of a member are delivered here, own casts included; `None` where the group has no such member.
+    pub fn delivered_of(&self, member: u32) -> Option<u32>
+        ensures { OnEach self.now (λ m. result ≡ delivered_of_in m member) }
+    {
+        self.core.delivered_of(member)
     }
 
     /// How many own casts a member is known to have delivered, this one all; `None` where the group has no such member.
@@ -282,6 +381,18 @@ impl Kept {
             ↔ (((seat_of self.now).group.size ≤ member) ⊎ (member ≡ (seat_of self.now).me)) }
     {
         self.core.help(member)
+    }
+
+    /// The frame of `help`, but to the first of these members that is known to have the message. Nothing changes.
+    pub fn help_among(&self, member: u32, members: &[u32]) -> Result<Option<Outgoing>, HelpFault>
+        ensures asked { IfOk result (λ out. OnEach self.now (λ m.
+            answer_to_help_among m member members.now ≡ Ok out)) }
+        ensures refused { IfErr result (λ fault. OnEach self.now (λ m.
+            RefusesHelpAmong m member members.now fault)) }
+        ensures bad_member { (result ≡ Err HelpFault.BadMember)
+            ↔ (may_ask_among (seat_of self.now) member members.now ≡ false) }
+    {
+        self.core.help_among(member, members)
     }
 }
 

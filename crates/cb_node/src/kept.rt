@@ -21,11 +21,11 @@ use std::marker::Model;
 
 /// A member whose entries go to a keeper, and what is to be sent of those that are kept.
 #[derive(Drop)]
-pub struct KeptMember {
+pub struct Kept {
     desk: Desk,
 }
 
-impl Model for KeptMember {
+impl Model for Kept {
     ghost use Rattle.cb_node.specs.Kept.{KeptState};
     ghost use Rattle.cb_node.specs.Desk.{IsDesk, state_in};
 
@@ -36,12 +36,12 @@ impl Model for KeptMember {
     ghost invariant = { λ m. IsDesk m.desk };
 }
 
-impl KeptMember {
+impl Kept {
     /// A member all of whose entries are kept.
-    pub fn new(alloc: Global, member: Member) -> KeptMember
+    pub fn new(alloc: Global, member: Member) -> Kept
         ensures { result ≡ all_kept member none_refused }
     {
-        KeptMember {
+        Kept {
             desk: Desk::new(alloc, member),
         }
     }
@@ -56,7 +56,7 @@ impl KeptMember {
     pub fn into_member(self) -> Member
         ensures { result ≡ self.member }
     {
-        let KeptMember { desk } = self;
+        let Kept { desk } = self;
         desk.into_member()
     }
 

@@ -1,17 +1,13 @@
-use Rattle.std.proofs.lemmas.Result.{IfOk-weaker, IfErr-weaker}
-use Rattle.cb_member.specs.Recorder.{facts_held}
-use Rattle.cb_member.proofs.Entering.{facts_kept, state_kept}
+use Rattle.std.proofs.Common.{◌≡◌, Ok}
+use Rattle.std.proofs.lemmas.Result.{IfErr-weaker, IfOk-weaker}
+use Rattle.cb_member.specs.Helping.{RefusesHelpAmong, answer_to_help_among}
+use Rattle.cb_member.proofs.Members.{of_member}
 use Rattle.cb_member.proofs.member.Member.help_among.Goals as goal
-
-pub help_among-requires : goal.help_among-requires
-help_among-requires c = state_kept c.self.inside.recorder c.self.invariant
 
 pub returns-clause-asked : goal.returns-clause-asked
 returns-clause-asked c =
-    let r = c.self.inside.recorder in
-    rw (← c.self.view_is) (IfOk-weaker c.help_among.result _ _ (λ out is. is (facts_held r) (facts_kept r c.self.invariant) c.self.invariant.keeps) c.help_among.ensures.asked)
+    rw (← c.self.view_is) (IfOk-weaker c.help_among.result _ _ (λ out on. of_member c.self.inside.kept c.self.invariant (λ m. answer_to_help_among m c.args.i c.args.members.now ≡ Ok out) on) c.help_among.ensures.asked)
 
 pub returns-clause-refused : goal.returns-clause-refused
 returns-clause-refused c =
-    let r = c.self.inside.recorder in
-    rw (← c.self.view_is) (IfErr-weaker c.help_among.result _ _ (λ fault is. is (facts_held r) (facts_kept r c.self.invariant) c.self.invariant.keeps) c.help_among.ensures.refused)
+    rw (← c.self.view_is) (IfErr-weaker c.help_among.result _ _ (λ fault on. of_member c.self.inside.kept c.self.invariant (λ m. RefusesHelpAmong m c.args.i c.args.members.now fault) on) c.help_among.ensures.refused)
