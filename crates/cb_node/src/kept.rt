@@ -21,11 +21,11 @@ use std::marker::Model;
 
 /// A member whose entries go to a keeper, and what is to be sent of those that are kept.
 #[derive(Drop)]
-pub struct Kept {
+pub struct KeptMember {
     desk: Desk,
 }
 
-impl Model for Kept {
+impl Model for KeptMember {
     ghost use Rattle.cb_node.specs.Kept.{KeptState};
     ghost use Rattle.cb_node.specs.Desk.{IsDesk, state_in};
 
@@ -36,12 +36,12 @@ impl Model for Kept {
     ghost invariant = { λ m. IsDesk m.desk };
 }
 
-impl Kept {
+impl KeptMember {
     /// A member all of whose entries are kept.
-    pub fn new(alloc: Global, member: Member) -> Kept
+    pub fn new(alloc: Global, member: Member) -> KeptMember
         ensures { result ≡ all_kept member none_refused }
     {
-        Kept {
+        KeptMember {
             desk: Desk::new(alloc, member),
         }
     }
@@ -56,7 +56,7 @@ impl Kept {
     pub fn into_member(self) -> Member
         ensures { result ≡ self.member }
     {
-        let Kept { desk } = self;
+        let KeptMember { desk } = self;
         desk.into_member()
     }
 

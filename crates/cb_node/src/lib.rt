@@ -27,7 +27,7 @@ pub use cb_member::{
 pub use desk::for_all;
 pub use ends::{Counts, Ends};
 pub use fault::{NodeBurstFault, NodeCastFault, TurnFault};
-pub use kept::Kept;
+pub use kept::KeptMember;
 pub use named::Named;
 pub use node::{MOST_FRAMES, Node, now, shorter};
 pub use pace::{BadBounds, Bounds, Pacing};

@@ -10,7 +10,7 @@ ghost use Rattle.cb_node.specs.Turning.{HasGone, HasMadeTick, HasTurned, between
 
 use crate::ends::{Counts, Ends};
 use crate::fault::{NodeBurstFault, NodeCastFault, TurnFault};
-use crate::kept::Kept;
+use crate::kept::KeptMember;
 use crate::named::Named;
 use crate::pace::{Bounds, Pacing};
 use crate::refused::Refused;
@@ -31,7 +31,7 @@ pub const MOST_FRAMES: u32 = 64;
 /// turn before. So a program's loop is: cast, turn, show the news.
 #[derive(Drop)]
 pub struct Node<I, O, K> {
-    kept: Kept,
+    kept: KeptMember,
     keeper: K,
     ends: Ends<I, O>,
     pacing: Pacing,
@@ -78,7 +78,7 @@ impl<I, O, K> Node<I, O, K> {
         ensures counts { result.ends.counts ≡ none_counted }
     {
         Node {
-            kept: Kept::new(alloc, member),
+            kept: KeptMember::new(alloc, member),
             keeper,
             ends: Ends::new(link),
             pacing: Pacing::new(bounds),
