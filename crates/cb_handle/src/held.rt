@@ -19,7 +19,6 @@ ghost use Rattle.cb_handle.specs.Calling.{OnEach, seat_held, events_held, entrie
 
 use crate::copies::{copy_front, from};
 use crate::frames::{Frames, show_frame, show_frames};
-use crate::kept::Kept;
 use crate::payloads::{are_enough, cut};
 use crate::reading::{delayed_row, entry_at, event_at, events_from, show_ranges};
 use crate::received::ReceivedBlock;
@@ -27,7 +26,8 @@ use crate::rows::{Counts, Delayed, EntryHead, EventHead, FrameHead, Name, Range,
 use bytes::Bytes;
 use cb_frames::MOST_MESSAGES;
 use cb_member::{
-    ArriveRefusal, BurstRefusal, CastRefusal, Group, HelpFault, MissingFault, NewFault, TickRefusal,
+    ArriveRefusal, BurstRefusal, CastRefusal, Group, HelpFault, Kept, MissingFault, NewFault,
+    TickRefusal,
 };
 use std::alloc::{AllocError, Global};
 

@@ -15,7 +15,7 @@ use Rattle.cb_history.specs.Facts.{ArriveEntry, CastEntry, TickEntry}
 use Rattle.cb_history.specs.View.{view, drained}
 use Rattle.cb_history.specs.Answers.{cast_answer, arrive_answer, tick_answer}
 use Rattle.cb_delay.specs.declared.message.Message.{Message}
-use Rattle.cb_member.specs.declared.recorder.taken.Received.{Received}
+use Rattle.cb_member.specs.declared.received.Received.{Received}
 use Rattle.cb_member.specs.CoreRuns.{Cast, Take, Tick, history_after_all}
 
 abbrev first : Identity

@@ -18,7 +18,7 @@ use Rattle.cb_history.specs.Facts.{EntryFields}
 use Rattle.cb_history.specs.Load.{FitsFrame}
 use Rattle.cb_history.specs.Legal.{ToCast, ToTake, ToTick}
 use Rattle.cb_history.specs.State.{MemberState, HasCast, HasCastBurst, HasTicked, RefusesArrival, RefusesTick, state_after}
-use Rattle.cb_member.specs.declared.recorder.taken.Received.{Received}
+use Rattle.cb_member.specs.declared.received.Received.{Received}
 use Rattle.cb_member.specs.Casting.{RefusesBurstExactly, RefusesExactly}
 use Rattle.cb_member.specs.CoreCalls.{HasReceivedWith}
 use Rattle.cb_member.specs.CoreMember.{Core, GoesOn, IsCore, OnEach, StandsFor, grown_by, unlimited}

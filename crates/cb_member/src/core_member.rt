@@ -1,6 +1,6 @@
 //! A member that keeps no history: what it knows is all that it needs of one.
 
-ghost use Rattle.std.specs.Prelude.{◌≡◌, ◌≢◌, ◌↔◌, ◌⊎◌, ◌≤◌, ◌<◌, [], ◌∷◌, ◌++◌, length, IfOk, IfErr, OnErr, OnOk, Some, None, Ok, Err, true, false, option_map};
+ghost use Rattle.std.specs.Prelude.{◌≡◌, ◌≢◌, ◌↔◌, ◌⊎◌, ◌≤◌, ◌<◌, [], ◌++◌, length, IfOk, IfErr, OnErr, OnOk, Some, None, Ok, Err, true, false, option_map};
 ghost use Rattle.cb_frames.specs.Fields.{One, CastFrame};
 ghost use Rattle.cb_frames.specs.Text.{text_of};
 ghost use Rattle.cb_history.specs.Answers.{is_new_status};
@@ -13,20 +13,22 @@ ghost use Rattle.cb_history.specs.Load.{many_of};
 ghost use Rattle.cb_history.specs.Known.{ranges_of};
 ghost use Rattle.cb_history.specs.State.{time_in, stable_in, stable_of_in, missing_in, answer_to_cast, answer_to_help, entry_by, facts_in, next_in, state_after, HasCast, HasCastBurst, HasTicked, RefusesHelp, RefusesTick};
 ghost use Rattle.cb_member.specs.Casting.{RefusesBurstExactly, RefusesExactly};
-ghost use Rattle.cb_member.specs.CoreCalls.{HasEntryOnEach, JoinsAs, MayCast, ReceivesOnEach, RefusesOnEach, RefusesWithin, joined};
+ghost use Rattle.cb_member.specs.CoreCalls.{AnswersArrivalOnEach, AnswersBurstInto, AnswersCastInto, AnswersTickOnEach, HasEntryOnEach, JoinsAs, MayCast, ReceivesOnEach, RefusesOnEach, RefusesWithin, joined};
+ghost use Rattle.cb_member.specs.Helping.{answer_to_help_among, may_ask_among, RefusesHelpAmong};
 ghost use Rattle.cb_member.specs.Readings.{acknowledged_by_in, delivered_of_in, keeps_window_full_in, waiting_in, waits_for_in};
 ghost use Rattle.cb_member.specs.Received.{count_said};
 ghost use Rattle.cb_member.specs.CoreMember.{GoesOn, OnEach, StandsFor};
 ghost use Rattle.cb_member.specs.CoreRuns.{Burst, Cast, IsCall, Take, Tick};
 
-mod arriving;
+pub mod arriving;
 mod casting;
 mod ticking;
 
-use crate::core_member::arriving::Noting;
+use crate::core_member::arriving::{Asked, Noting};
 use crate::readings::Delayed;
-use crate::recorder::Received;
+use crate::received::Received;
 use crate::state::State;
+use crate::wanted::{Made, Taken, Told, Wanted};
 use bytes::Bytes;
 use cb_delay::Event;
 use cb_frames::Range;
@@ -205,6 +207,21 @@ impl CoreMember {
         self.state.help(i)
     }
 
+    /// The frame of `help`, but to the first of these members that is known to have the message: leave out who is silent. Member i and
+    /// this one are passed over. Nothing changes.
+    ///
+    /// `BadMember` as `help` has it, or where one of these is no member of the group; that takes no memory.
+    pub fn help_among(&self, i: u32, members: &[u32]) -> Result<Option<Outgoing>, HelpFault>
+        ensures asked { IfOk result (λ out. OnEach self.now (λ m.
+            answer_to_help_among m i members.now ≡ Ok out)) }
+        ensures refused { IfErr result (λ fault. OnEach self.now (λ m.
+            RefusesHelpAmong m i members.now fault)) }
+        ensures bad_member { (result ≡ Err HelpFault.BadMember)
+            ↔ (may_ask_among self.now.seat i members.now ≡ false) }
+    {
+        self.state.help_among(i, members)
+    }
+
     /// Casts a message of this payload, of up to 1,024 bytes, and answers its name, its time and
     /// the frame that goes to all others.
     ///
@@ -300,7 +317,8 @@ impl CoreMember {
         ensures same { OnErr result (self.new ≡ self.old) }
         ensures same_events { OnErr result (events.new.items ≡ events.old.items) }
     {
-        self.state.cast_joining(payload, events)
+        let (made, entry) = self.state.cast_joining(payload, Wanted::NOTHING, events)?;
+        Ok((made.frame(), entry))
     }
 
     /// Casts a burst as `cast_burst_noted` does, for a caller who keeps events: those of its
@@ -325,7 +343,36 @@ impl CoreMember {
         ensures same { OnErr result (self.new ≡ self.old) }
         ensures same_events { OnErr result (events.new.items ≡ events.old.items) }
     {
-        self.state.cast_burst_joining(payloads, events)
+        let (made, entry) = self
+            .state
+            .cast_burst_joining(payloads, Wanted::NOTHING, events)?;
+        Ok((made.frame(), entry))
+    }
+
+    /// Casts a payload as `cast_into` does, with the copies that are wanted.
+    pub(crate) fn cast_wanting(
+        &mut self,
+        payload: &[u8],
+        wanted: Wanted,
+        events: &mut Vec<Event>,
+    ) -> Result<(Made, Entry), CastRefusal>
+        ensures { AnswersCastInto wanted (One payload.now) self.old self.new events.old.items
+            events.new.items result }
+    {
+        self.state.cast_joining(payload, wanted, events)
+    }
+
+    /// Casts a burst as `cast_burst_into` does, with the copies that are wanted.
+    pub(crate) fn cast_burst_wanting(
+        &mut self,
+        payloads: &[&[u8]],
+        wanted: Wanted,
+        events: &mut Vec<Event>,
+    ) -> Result<(Made, Entry), BurstRefusal>
+        ensures { AnswersBurstInto wanted (many_of payloads.now) self.old self.new
+            events.old.items events.new.items result }
+    {
+        self.state.cast_burst_joining(payloads, wanted, events)
     }
 
     /// Whether `cast` would cast the payload, if there is memory for it; else why not. This takes
@@ -371,10 +418,13 @@ impl CoreMember {
         ensures call { IsCall
             (Take bytes.now result (joined events.old.items events.new.items)) self.old self.new }
     {
-        let heard = self
-            .state
-            .receive_unlimited(bytes, Noting::Unwanted, events)?;
-        Ok(heard.received)
+        let asked = Asked {
+            noting: Noting::Unwanted,
+            wanted: Wanted::NOTHING,
+        };
+        let (taken, entry) = self.state.receive_unlimited(bytes, asked, events)?;
+        drop(entry);
+        Ok(taken.received())
     }
 
     /// Takes received bytes as `receive` does, and hands out the entry that a history would have of
@@ -397,8 +447,12 @@ impl CoreMember {
         ensures same { OnErr result (self.new ≡ self.old) }
         ensures same_events { OnErr result (events.new.items ≡ events.old.items) }
     {
-        let heard = self.state.receive_unlimited(bytes, Noting::Wanted, events)?;
-        Ok((heard.received, heard.noted))
+        let asked = Asked {
+            noting: Noting::Wanted,
+            wanted: Wanted::NOTHING,
+        };
+        let (taken, entry) = self.state.receive_unlimited(bytes, asked, events)?;
+        Ok((taken.received(), entry))
     }
 
     /// Takes received bytes as `receive_noted` does, for a caller who may have no room for an entry.
@@ -425,10 +479,25 @@ impl CoreMember {
         ensures same { OnErr result (self.new ≡ self.old) }
         ensures same_events { OnErr result (events.new.items ≡ events.old.items) }
     {
-        let heard = self
-            .state
-            .receive_unlimited(bytes, Noting::within(may_enter), events)?;
-        Ok((heard.received, heard.noted))
+        let asked = Asked {
+            noting: Noting::within(may_enter),
+            wanted: Wanted::NOTHING,
+        };
+        let (taken, entry) = self.state.receive_unlimited(bytes, asked, events)?;
+        Ok((taken.received(), entry))
+    }
+
+    /// Takes received bytes as `receive_within` does, with the copies that are wanted.
+    pub(crate) fn receive_wanting(
+        &mut self,
+        bytes: &Bytes,
+        asked: Asked,
+        events: &mut Vec<Event>,
+    ) -> Result<(Taken, Option<Entry>), ArriveRefusal>
+        ensures { AnswersArrivalOnEach asked bytes.now self.old self.new events.old.items
+            events.new.items result }
+    {
+        self.state.receive_unlimited(bytes, asked, events)
     }
 
     /// Reports the status to all others, and asks each for what is missing of it.
@@ -459,7 +528,18 @@ impl CoreMember {
         ensures no_limit { result ≢ Err TickRefusal.HistoryFull }
         ensures same { OnErr result (self.new ≡ self.old) }
     {
-        self.state.tick_unlimited()
+        let (told, entry) = self.state.tick_unlimited(Wanted::NOTHING)?;
+        Ok((told.ticked(), entry))
+    }
+
+    /// Ticks as `tick_noted` does, with the copy that is wanted.
+    pub(crate) fn tick_wanting(
+        &mut self,
+        wanted: Wanted,
+    ) -> Result<(Told, Option<Entry>), TickRefusal>
+        ensures { AnswersTickOnEach wanted self.old self.new result }
+    {
+        self.state.tick_unlimited(wanted)
     }
 
     /// Whether `tick` would add an entry to a history: the status differs from the last one.
@@ -469,3 +549,6 @@ impl CoreMember {
         self.state.has_news()
     }
 }
+
+#[cfg(test)]
+mod tests;

@@ -5,11 +5,10 @@ ghost use Rattle.cb_history.specs.Load.{many_of};
 ghost use Rattle.cb_member.specs.CoreCalls.{AnswersBurstInto, AnswersBurstOnEach, AnswersCastInto, AnswersCastOnEach, IsMade, JoinsMade, KeepsMade};
 ghost use Rattle.cb_member.specs.CoreMember.{IsCore, core_of};
 
-use crate::own_cast::{Casting, last_time, push_casts};
-use crate::recorder::of_one;
+use crate::own_cast::{Casting, last_time, of_one, push_casts};
 use crate::state::State;
 use crate::text::another;
-use bytes::Bytes;
+use crate::wanted::{Made, Wanted};
 use cb_delay::{Event, Message};
 use cb_history::{BurstDone, BurstRefusal, CastDone, CastRefusal, Entry};
 use cb_times::{NoMemory, make_room};
@@ -71,37 +70,39 @@ impl State {
         Ok((done, entry))
     }
 
-    /// Casts a message of this payload. Its event joins the events; its frame is handed out, and
+    /// Casts a message of this payload. Its event joins the events; what is told of it is handed out, and
     /// the entry that a history would have of it.
     pub fn cast_joining(
         &mut self,
         payload: &[u8],
+        wanted: Wanted,
         events: &mut Vec<Event>,
-    ) -> Result<(Bytes, Entry), CastRefusal>
+    ) -> Result<(Made, Entry), CastRefusal>
         requires { IsCore (core_of self.old) }
-        ensures { AnswersCastInto (One payload.now) (core_of self.old) (core_of self.new)
+        ensures { AnswersCastInto wanted (One payload.now) (core_of self.old) (core_of self.new)
             events.old.items events.new.items result }
     {
         self.judge_payload(payload)?;
         let casting = self.make(payload)?;
-        let joined = self.join_made(casting, events)?;
+        let joined = self.join_made(casting, wanted, events)?;
         Ok(joined)
     }
 
-    /// Casts a message of each payload, all in one frame. Their events join the events; the frame is handed out, and the entry that a
-    /// history would have of it.
+    /// Casts a message of each payload, all in one frame. Their events join the events; what is told of the burst is handed out, and the
+    /// entry that a history would have of it.
     pub fn cast_burst_joining(
         &mut self,
         payloads: &[&[u8]],
+        wanted: Wanted,
         events: &mut Vec<Event>,
-    ) -> Result<(Bytes, Entry), BurstRefusal>
+    ) -> Result<(Made, Entry), BurstRefusal>
         requires { IsCore (core_of self.old) }
-        ensures { AnswersBurstInto (many_of payloads.now) (core_of self.old) (core_of self.new)
+        ensures { AnswersBurstInto wanted (many_of payloads.now) (core_of self.old) (core_of self.new)
             events.old.items events.new.items result }
     {
         self.judge_payloads(payloads)?;
         let casting = self.make_burst(payloads)?;
-        let joined = self.join_made(casting, events)?;
+        let joined = self.join_made(casting, wanted, events)?;
         Ok(joined)
     }
 
@@ -109,24 +110,37 @@ impl State {
     fn join_made(
         &mut self,
         casting: Casting,
+        wanted: Wanted,
         events: &mut Vec<Event>,
-    ) -> Result<(Bytes, Entry), NoMemory>
+    ) -> Result<(Made, Entry), NoMemory>
         requires { IsMade casting self.old }
-        ensures { JoinsMade casting self.old self.new events.old.items events.new.items result }
+        ensures { JoinsMade wanted casting self.old self.new events.old.items events.new.items
+            result }
     {
         let count = casting.count();
         make_room(events, count)?;
         let entry = Entry::Cast {
             frame: another(&casting.out)?,
         };
+        let noted = wanted.note(&entry)?;
+        let time = wanted.time(&casting.first.time)?;
+        let count = count as u32;
         let Casting {
-            first,
+            first: message,
             others,
             out,
             sent,
         } = casting;
-        self.keep_cast(last_time(&first, &others), sent, count as u32);
-        push_casts(events, first, others);
-        Ok((out, entry))
+        let first = message.name;
+        self.keep_cast(last_time(&message, &others), sent, count);
+        push_casts(events, message, others);
+        let made = Made {
+            first,
+            count,
+            time,
+            out,
+            noted,
+        };
+        Ok((made, entry))
     }
 }

@@ -28,7 +28,7 @@ returns c load can =
     let joined = c.push_casts.ensures ∙ ap (λ (es : List Event). es ++ map (λ m. Cast m) (messages_made c.args.casting)) c.in_ok-make_room.ensures.items in
     record {
       core = kept_is_core load c.args.self.now _ c.args.casting c.in_ok-another.field-0 c.last_time.result.now c.count-count.result so;
-      casts = joins_so load c.args.self.now _ c.args.casting c.in_ok-another.field-0 c.last_time.result.now c.count-count.result so c.args.events.now.items _ joined;
+      casts = joins_so load c.args.self.now _ c.args.casting c.in_ok-another.field-0 c.last_time.result.now c.count-count.result so c.args.wanted c.args.events.now.items _ c.in_ok-time.time c.in_ok-noted.noted joined c.in_ok-time.ensures c.in_ok-noted.ensures;
       same = tt;
       same_events = tt;
     }

@@ -1,15 +1,15 @@
-use Rattle.std.proofs.Common.{◌∙◌, [], Ok, refl, sym, ap, subst}
+use Rattle.std.proofs.Common.{◌∙◌, Ok, refl, sym, ap, subst}
+use Rattle.std.proofs.lemmas.Result.{err_from_is_err_and}
 use Rattle.cb_frames.specs.Fields.{unit_fields, CastFrame}
 use Rattle.cb_history.specs.Answers.{Repeat}
 use Rattle.cb_member.specs.declared.arrival.cast.Judged.{Judged}
-use Rattle.cb_member.specs.declared.core_member.arriving.Heard.{Heard}
+use Rattle.cb_member.specs.declared.received.Received.TheVariants as received
 use Rattle.cb_member.specs.Arriving.{JudgesCast}
 use Rattle.cb_member.specs.CoreCalls.{is_told, may_add}
 use Rattle.cb_member.specs.CoreMember.{core_of}
-use Rattle.cb_member.specs.Received.{count_said, received_says}
 use Rattle.cb_member.proofs.Cores.{is_state}
 use Rattle.cb_member.proofs.Reading.{cast_says}
-use Rattle.cb_member.proofs.CoreArrivals.{Enters, answered_on_each, answers_unchanged, come_before, refused_frame, refuses_arrival, refuses_entry}
+use Rattle.cb_member.proofs.CoreArrivals.{Enters, answered_on_each, answers_unchanged, come_before, out_of_memory, refused_frame, refuses_arrival, refuses_entry}
 use Rattle.cb_member.proofs.state.State.receive_cast.Goals as goal
 use Rattle.cb_member.proofs.state.State.receive_cast.Goals.{in-Unwanted, in-Wanted}
 
@@ -33,15 +33,13 @@ returns-in-Ok-Repeat c =
     let cast = unit_fields c.args.unit in
     let state = c.args.self.now in
     let repeat = subst (λ (j : Judged). JudgesCast state cast (Ok j)) c.in-Ok-Repeat.field-0-is c.in-Ok-Repeat.ensures in
-    answers_unchanged c.args.noting c.args.bytes.now (core_of state) Repeat c.not_noted.result c.args.events.now.items c.requires.core
-    (answered_on_each state c.args.bytes.now (CastFrame cast) (Ok Repeat) c.requires.read repeat) refl
-    (ap (λ (h : Heard). received_says h.received []) c.not_noted.ensures) (ap (λ (h : Heard). count_said h.received) c.not_noted.ensures)
-    (ap (λ (h : Heard). h.noted) c.not_noted.ensures)
+    answers_unchanged c.args.asked c.args.bytes.now (core_of state) Repeat received.Repeat c.unchanged.result c.args.events.now.items c.requires.core
+    (answered_on_each state c.args.bytes.now (CastFrame cast) (Ok Repeat) c.requires.read repeat) refl c.unchanged.ensures refl refl
 
 pub returns-in-Err : goal.returns-in-Err
 returns-in-Err c =
     let state = c.args.self.now in
-    refuses_arrival c.args.noting c.args.bytes.now (core_of state) (core_of state) c.args.events.now.items c.args.events.now.items c.in-Err.refusal c.requires.core refl refl
+    refuses_arrival c.args.asked c.args.bytes.now (core_of state) (core_of state) c.args.events.now.items c.args.events.now.items c.in-Err.refusal c.requires.core refl refl
     (refused_frame state c.args.bytes.now (CastFrame (unit_fields c.args.unit)) c.in-Err.refusal c.requires.read c.in-Err.ensures)
 
 pub returns-in-Refused : goal.returns-in-Refused
@@ -49,15 +47,22 @@ returns-in-Refused c =
     let cast = unit_fields c.args.unit in
     let state = c.args.self.now in
     let taken = subst (λ (j : Judged). JudgesCast state cast (Ok j)) c.in-Ok-Taken.field-0-is c.in-Ok-Taken.ensures in
-    refuses_entry c.args.noting c.args.bytes.now state (CastFrame cast) c.args.events.now.items c.requires.core (ap may_add c.in-Refused.is) c.requires.read taken.changes
+    refuses_entry c.args.asked c.args.bytes.now state (CastFrame cast) c.args.events.now.items c.requires.core (ap may_add c.in-Refused.is) c.requires.read taken.changes
+
+pub returns-in_err-make_room : goal.returns-in_err-make_room
+returns-in_err-make_room c =
+    let exit = err_from_is_err_and c.from_residual-in_err-make_room.result c.from_residual-in_err-make_room.ensures.1 in
+    let core = core_of c.args.self.now in
+    rw exit.1 (refuses_arrival c.args.asked c.args.bytes.now core (core_of c.prepare_coming.new.self) c.args.events.now.items c.make_room.new.list.items exit.0 c.requires.core c.in_ok-coming.ensures.same c.in_err-make_room.ensures.items
+    (out_of_memory core c.args.bytes.now (CastFrame (unit_fields c.args.unit)) exit.0 c.requires.read exit.2))
 
 pub returns : goal.returns
 returns c =
-    let enters : Enters c.args.noting c.match-noting.noted =
+    let enters : Enters c.args.asked.noting c.match-noting.entered =
     elim c.match-noting.branch [
-      | in-Unwanted w ↦ (ap may_add w.in-Unwanted.is, ap is_told w.in-Unwanted.is ∙ sym w.noted-is)
-      | in-Wanted w ↦ (ap may_add w.in-Wanted.is, ap is_told w.in-Wanted.is ∙ sym w.noted-is)
+      | in-Unwanted w ↦ (ap may_add w.in-Unwanted.is, ap is_told w.in-Unwanted.is ∙ sym w.entered-is)
+      | in-Wanted w ↦ (ap may_add w.in-Wanted.is, ap is_told w.in-Wanted.is ∙ sym w.entered-is)
     ] in
-    come_before c.args.noting c.match-noting.noted c.args.bytes.now (core_of c.args.self.now) (core_of c.prepare_coming.new.self) (core_of c.enter_coming.new.self)
-    c.args.events.now.items c.prepare_coming.new.events.items c.enter_coming.new.events.items c.enter_coming.result enters c.in_ok-coming.ensures.same c.in_ok-coming.ensures.same_events
-    (c.enter_coming.ensures c.match-noting.noted c.args.bytes.now c.in_ok-coming.ensures.can)
+    come_before c.args.asked c.match-noting.entered c.args.bytes.now (core_of c.args.self.now) (core_of c.prepare_coming.new.self) (core_of c.enter_coming.new.self)
+    c.args.events.now.items c.make_room.new.list.items c.enter_coming.new.events.items c.enter_coming.result enters c.in_ok-coming.ensures.same c.in_ok-make_room.ensures.items
+    (c.enter_coming.ensures c.match-noting.entered c.args.asked.wanted c.args.bytes.now c.in_ok-coming.ensures.can)
