@@ -1,14 +1,13 @@
 -- What a core answers to its own calls: casts and ticks.
-use Rattle.std.proofs.Common.{◌≡◌, ℕ, ◌≤◌, Bool, true, false, ◌&&◌, leb, List, [], ◌∷◌, ◌++◌, length, map, Option, Some, None, Result, Ok, Err, refl, sym, ap, subst, ◌∙◌, arith, inr}
+use Rattle.std.proofs.Common.{◌≡◌, ℕ, ◌≤◌, Bool, true, false, ◌&&◌, leb, List, [], ◌∷◌, ◌++◌, length, drop, map, Option, Some, None, Result, Ok, Err, refl, sym, ap, subst, ◌∙◌, arith, inr}
 use Rattle.std.specs.Prelude.{IsOk, option_map, if◌then◌else◌}
+use Rattle.std.proofs.Math.Seq.{drop-append_seam}
 use Rattle.std.proofs.lemmas.Bool.{lt-leb}
 use Rattle.cb_frames.specs.declared.frame.TheConstants.{MOST_MESSAGES}
 use Rattle.cb_frames.specs.Fields.{Load, CastFields, StatusFrame}
 use Rattle.cb_frames.specs.Text.{text_of}
 use Rattle.cb_delay.specs.declared.message.Event.{Event}
 use Rattle.cb_delay.specs.declared.message.Event.TheVariants as events
-use Rattle.cb_history.specs.declared.answer.BurstDone.{BurstDone}
-use Rattle.cb_history.specs.declared.answer.CastDone.{CastDone}
 use Rattle.cb_history.specs.declared.answer.Outgoing.{Outgoing}
 use Rattle.cb_history.specs.declared.answer.TickRefusal.{TickRefusal}
 use Rattle.cb_history.specs.declared.answer.TickRefusal.TheVariants as ticks
@@ -19,7 +18,7 @@ use Rattle.cb_history.specs.Facts.{EntryFields, Fact, OwnCast, OwnStatus, CastEn
 use Rattle.cb_history.specs.Answers.{is_new_status, next_cast, requests, status_of, tick_answer}
 use Rattle.cb_history.specs.Legal.{ToCast, ToTick, cast_entry, room_for_one, tick_entry}
 use Rattle.cb_history.specs.LegalFacts.{AreFactsOf}
-use Rattle.cb_history.specs.State.{MemberState, HasCast, HasCastBurst, answer_to_cast, answer_to_tick, entry_by, state_after}
+use Rattle.cb_history.specs.State.{MemberState, answer_to_cast, answer_to_tick, entry_by, state_after}
 use Rattle.cb_history.proofs.ReadBack.{cast_read, status_read}
 use Rattle.cb_history.proofs.Requests.{own_frames_have_texts}
 use Rattle.cb_history.proofs.Written.{fitting_can}
@@ -28,20 +27,16 @@ use Rattle.cb_member.specs.declared.state.State.{State}
 use Rattle.cb_member.specs.declared.wanted.Made.{Made}
 use Rattle.cb_member.specs.declared.wanted.Told.{Told}
 use Rattle.cb_member.specs.declared.wanted.Wanted.{Wanted}
-use Rattle.cb_member.specs.Casting.{CanCast, CanKeepCast, HasKept, IsCasting, IsSameButBlock, JudgesLoad, MakesCasting, RefusesLoad, as_cast_done, messages_made, next_text, time_of_last}
-use Rattle.cb_member.specs.CoreCalls.{AnswersBurstOnEach, AnswersCastOnEach, AnswersLoad, AnswersLoadInto, AnswersTickOnEach, CanKeepOnEach, CastsOnEach, HasJoinedMade, HasKeptMade, JoinsCastOnEach, MayCast}
+use Rattle.cb_member.specs.Casting.{CanCast, CanKeepCast, HasKept, IsCasting, IsSameButBlock, JudgesLoad, MakesCasting, RefusesLoad, messages_made, next_text, time_of_last}
+use Rattle.cb_member.specs.CoreCalls.{AnswersLoadInto, AnswersTickOnEach, CanKeepOnEach, HasCastWith, HasJoinedMade, JoinsCastOnEach, MayCast, added}
 use Rattle.cb_member.specs.CoreMember.{Core, GoesOn, IsCore, OnEach, StandsFor, core_of, unlimited}
 use Rattle.cb_member.specs.State.{Keeps, OnAll}
 use Rattle.cb_member.specs.Telling.{HasReported}
 use Rattle.cb_member.proofs.Cores.{Grows, core_goes_on, facts_follow, facts_stand, goes_on_none, is_state, keeps_of, one_is_left, same_but_block, stands_then}
 use Rattle.cb_member.proofs.Judging.{casts_next, few_for}
-use Rattle.cb_member.proofs.Made.{burst_told, can_keep_made, cast_told, made_events, made_last, made_many}
+use Rattle.cb_member.proofs.Made.{burst_told, can_keep_made, made_events, made_last, made_many}
 
 -- ---- casts that are refused
-
-pub refuses_load : {D R : Type 0} (Has : MemberState → MemberState → Load → D → Type 0) (Refuses : MemberState → Load → R → Type 0) (load : Load) (old new : Core) (refusal : R) → IsCore old → new ≡ old
-    → OnEach old (λ m. Refuses m load refusal) → AnswersLoad Has Refuses load old new (Err refusal)
-refuses_load Has Refuses load old new refusal is same refuses = record { core = subst IsCore (sym same) is; casts = tt; refused = refuses; same = same }
 
 pub refuses_load_into : {R : Type 0} (Refuses : MemberState → Load → R → Type 0) (wanted : Wanted) (load : Load) (old new : Core) (before after : List Event) (refusal : R) → IsCore old → new ≡ old → after ≡ before
     → OnEach old (λ m. Refuses m load refusal) → AnswersLoadInto Refuses wanted load old new before after (Err refusal)
@@ -138,14 +133,7 @@ module _ (load : Load) (old new : State) (casting : Casting) (frame time : List 
   pub kept_is_core : IsCore (core_of new)
   kept_is_core = core_goes_on (ToCast load) (core_of old) (core_of new) c.can.core goes_on
 
-  pub casts_so : CastsOnEach HasCastBurst load (core_of old) (core_of new) (record { first = casting.first.name; count = count; time = casting.first.time; out = casting.out }, entries.Cast frame)
-  casts_so = record {
-    goes_on = goes_on;
-    done = λ es s. record { answer = answer es s; reported = burst_told old.seat (facts_of es) load casting casting.first.time count (made es s) refl c.many; after = refl };
-    entry = entered;
-  }
-
-  -- where the events are those of its messages
+  -- the events are those of its messages
   pub joins_so : (wanted : Wanted) (before after : List Event) (copy : Option (List ℕ)) (noted : Option Entry) → after ≡ before ++ map (λ m. events.Cast m) (messages_made casting)
       → (wanted.answer ≡ true → copy ≡ Some casting.first.time) → (wanted.entry ≡ true → option_map entry_fields noted ≡ Some (CastEntry frame))
       → JoinsCastOnEach wanted load (core_of old) (core_of new) before after (record { first = casting.first.name; count = count; time = copy; out = casting.out; noted = noted }, entries.Cast frame)
@@ -165,30 +153,6 @@ module _ (load : Load) (old new : State) (casting : Casting) (frame time : List 
 
 -- ---- what is answered
 
-pub answers_burst : (load : Load) (old mid : State) (new : Core) (noted : BurstDone × Entry) {E : Type 0} → IsSameButBlock old mid → HasKeptMade {E = E} load (core_of mid) new (Ok noted) → AnswersBurstOnEach load (core_of old) new (Ok noted)
-answers_burst load old mid new noted block kept = record {
-  core = kept.core;
-  casts = subst (λ (core : Core). CastsOnEach HasCastBurst load core new noted) (same_but_block old mid block) kept.casts;
-  refused = tt;
-  same = tt;
-}
-
--- of one message
-pub answers_cast : (load : Load) (old mid : State) (new : Core) (noted : BurstDone × Entry) (done : CastDone) {E : Type 0} → done ≡ as_cast_done noted.0 → IsSameButBlock old mid → HasKeptMade {E = E} load (core_of mid) new (Ok noted)
-    → AnswersCastOnEach load (core_of old) new (Ok (done, noted.1))
-answers_cast load old mid new noted done is block kept =
-    let casts = subst (λ (core : Core). CastsOnEach HasCastBurst load core new noted) (same_but_block old mid block) kept.casts in
-    record {
-      core = kept.core;
-      casts = record {
-        goes_on = casts.goes_on;
-        done = λ es s. subst (HasCast (unlimited old.seat es) (state_after (unlimited old.seat es) (ToCast load)) load) (sym is) (cast_told (unlimited old.seat es) (state_after (unlimited old.seat es) (ToCast load)) load noted.0 (casts.done es s));
-        entry = casts.entry;
-      };
-      refused = tt;
-      same = tt;
-    }
-
 pub answers_into : {R E : Type 0} (Refuses : MemberState → Load → R → Type 0) (wanted : Wanted) (load : Load) (old mid : State) (new : Core) (before after : List Event) (cast : Made × Entry) → IsSameButBlock old mid
     → HasJoinedMade {E = E} wanted load (core_of mid) new before after (Ok cast) → AnswersLoadInto Refuses wanted load (core_of old) new before after (Ok cast)
 answers_into Refuses wanted load old mid new before after cast block joined = record {
@@ -197,6 +161,16 @@ answers_into Refuses wanted load old mid new before after cast block joined = re
   refused = tt;
   same = tt;
   same_events = tt;
+}
+
+-- the definition casts it
+pub has_cast : (wanted : Wanted) (load : Load) (old new : Core) (before after : List Event) (cast : Made × Entry) (frame : List ℕ) → JoinsCastOnEach wanted load old new before after cast → frame ≡ cast.0.out
+    → OnEach old (λ m. HasCastWith m load (frame, cast.1) (added before after))
+has_cast wanted load old new before after cast frame joins is es s = record {
+  answer = joins.answer es s;
+  frame = is ∙ joins.frame es s;
+  entry = joins.entry es s;
+  events_are = ap (drop (length before)) (joins.joins es s) ∙ drop-append_seam before _;
 }
 
 -- ---- ticks

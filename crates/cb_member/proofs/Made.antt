@@ -18,12 +18,11 @@ use Rattle.cb_history.specs.View.{count, counts, message_in, view}
 use Rattle.cb_history.specs.Answers.{burst_done, next_cast}
 use Rattle.cb_history.specs.EventLaws.{new_events}
 use Rattle.cb_history.specs.LegalFacts.{AreFactsOf}
-use Rattle.cb_history.specs.State.{MemberState, HasCast, HasCastBurst}
 use Rattle.cb_history.proofs.Times.{own_casts_tell_the_view}
 use Rattle.cb_history.proofs.Views.{casts_in-append}
 use Rattle.cb_member.specs.declared.own_cast.Casting.{Casting}
 use Rattle.cb_member.specs.declared.state.State.{State}
-use Rattle.cb_member.specs.Casting.{CanCast, CanKeepCast, IsCasting, as_cast_done, message_at, messages_made, next_messages, next_time, time_of_last, timed}
+use Rattle.cb_member.specs.Casting.{CanCast, CanKeepCast, IsCasting, message_at, messages_made, next_messages, next_time, time_of_last, timed}
 use Rattle.cb_member.specs.State.{IsState}
 use Rattle.cb_member.proofs.Casting.{first_is_next, last_is_next, next_many}
 
@@ -55,10 +54,6 @@ pub burst_told : (seat : Identity) (facts : List Fact) (load : Load) (casting : 
 burst_told seat facts load casting time count made at many =
     let first = first_is_next seat facts load casting.first casting.others.items made.messages in
     rw (first.name, many ∙ made_many seat facts load casting made, at ∙ first.time, made.out) refl
-
--- of one message
-pub cast_told : (old new : MemberState) (load : Load) (done : BurstDone) → HasCastBurst old new load done → HasCast old new load (as_cast_done done)
-cast_told old new load done has = record { answer = has.answer; reported = ap as_cast_done has.reported; after = has.after }
 
 -- ---- the events of the messages
 

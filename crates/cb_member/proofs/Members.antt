@@ -9,10 +9,11 @@ use Rattle.cb_history.specs.Events.{events}
 use Rattle.cb_history.specs.Facts.{EntryFields, TickEntry, entry_fields, facts_of}
 use Rattle.cb_history.specs.Group.{Parameters}
 use Rattle.cb_history.specs.Legal.{Call, ToCast, ToTake, ToTick, cast_entry, longest_history, room_for_one}
-use Rattle.cb_history.specs.State.{MemberState, IsMemberState, HasCastBurst, HasTaken, HasTicked, answer_to_arrival, answer_to_cast, answer_to_tick, entry_by, facts_in, next_in, state_after}
+use Rattle.cb_history.specs.State.{MemberState, IsMemberState, HasCast, HasCastBurst, HasTaken, HasTicked, answer_to_arrival, answer_to_cast, answer_to_tick, entry_by, facts_in, next_in, state_after}
 use Rattle.cb_history.specs.declared.answer.Arrival.{Arrival}
 use Rattle.cb_history.specs.declared.answer.ArriveRefusal.{ArriveRefusal}
 use Rattle.cb_history.specs.declared.answer.BurstDone.{BurstDone}
+use Rattle.cb_history.specs.declared.answer.CastDone.{CastDone}
 use Rattle.cb_history.specs.declared.answer.Outgoing.{Outgoing}
 use Rattle.cb_history.specs.declared.history.Entry.{Entry}
 use Rattle.cb_member.specs.declared.received.Received.{Received}
@@ -21,6 +22,7 @@ use Rattle.cb_member.specs.declared.wanted.Taken.{Taken}
 use Rattle.cb_member.specs.declared.wanted.Made.{Made}
 use Rattle.cb_member.specs.declared.wanted.Told.{Told}
 use Rattle.cb_member.specs.declared.wanted.Wanted.{Wanted}
+use Rattle.cb_member.specs.Casting.{as_cast_done}
 use Rattle.cb_member.specs.CoreCalls.{done_at}
 use Rattle.cb_member.specs.CoreMember.{StandsFor}
 use Rattle.cb_member.specs.Kept.{IsKept, Kept, OnEach, Stands, gone, limit_for, seat_of, state_with}
@@ -116,6 +118,9 @@ module _ (call : Call) (old new : Kept) (h : KeepsHistory old) (goes : GoesOn ca
 
 -- ---- casts
 
+some_is : {A : Type 0} (a b : A) → Some a ≡ Some b → a ≡ b
+some_is a b same = cc
+
 module _ (wanted : Wanted) (load : Load) (old new : Kept) (made : Made) (h : KeepsHistory old) (m : HasMade wanted old new load made) where
   pub made_keeps : KeepsHistory new
   made_keeps = still_keeps (ToCast load) old new h m.cast.goes_on m.kept
@@ -137,6 +142,13 @@ module _ (wanted : Wanted) (load : Load) (old new : Kept) (made : Made) (h : Kee
         reported = is told.0 told.1 ∙ of_member old h (λ x. done_at made told.0 ≡ burst_done x.seat (facts_in x) (next_in x load)) told.2;
         after = after_call (ToCast load) old new h m.cast.goes_on;
       }
+
+  -- of one message
+  pub made_cast : (done : CastDone) → ((time : List ℕ) → made.time ≡ Some time → done ≡ as_cast_done (done_at made time)) → wanted.answer ≡ true → HasCast (member_of old) (member_of new) load done
+  made_cast done is want =
+      let told = m.told want in
+      let burst = made_burst (done_at made told.0) (λ time at. ap (done_at made) (some_is told.0 time (sym told.1 ∙ at))) want in
+      record { answer = burst.answer; reported = is told.0 told.1 ∙ ap as_cast_done burst.reported; after = burst.after }
 
   pub made_entry : (entry : Entry) → made.noted ≡ Some entry → wanted.entry ≡ true → entry_by (member_of old) (ToCast load) ≡ Some (entry_fields entry)
   made_entry entry is want = of_member old h (λ x. entry_by x (ToCast load) ≡ option_map entry_fields made.noted) (m.noted want) ∙ ap (option_map entry_fields) is

@@ -11,7 +11,6 @@ use Rattle.cb_history.specs.declared.answer.ArriveRefusal.{ArriveRefusal}
 use Rattle.cb_history.specs.declared.answer.ArriveRefusal.TheVariants as refusals
 use Rattle.cb_history.specs.declared.answer.BurstDone.{BurstDone}
 use Rattle.cb_history.specs.declared.answer.BurstRefusal.{BurstRefusal}
-use Rattle.cb_history.specs.declared.answer.CastDone.{CastDone}
 use Rattle.cb_history.specs.declared.answer.CastRefusal.{CastRefusal}
 use Rattle.cb_history.specs.declared.answer.TickRefusal.{TickRefusal}
 use Rattle.cb_history.specs.declared.history.Entry.{Entry}
@@ -20,7 +19,7 @@ use Rattle.cb_history.specs.CastFault.{CastFault, IsFault}
 use Rattle.cb_history.specs.EventLaws.{new_events}
 use Rattle.cb_history.specs.Facts.{OwnCast, entry_fields}
 use Rattle.cb_history.specs.Legal.{ToCast, ToTake, ToTick}
-use Rattle.cb_history.specs.State.{MemberState, HasCast, HasCastBurst, HasTicked, RefusesArrival, RefusesTick, answer_to_arrival, answer_to_cast, entry_by, facts_in, next_in, state_after}
+use Rattle.cb_history.specs.State.{MemberState, HasTicked, RefusesArrival, RefusesTick, answer_to_arrival, answer_to_cast, entry_by, facts_in, next_in, state_after}
 use Rattle.cb_member.specs.declared.core_member.arriving.Asked.{Asked}
 use Rattle.cb_member.specs.declared.core_member.arriving.Coming.{Coming}
 use Rattle.cb_member.specs.declared.core_member.arriving.Noting.{Noting}
@@ -42,24 +41,16 @@ use Rattle.cb_member.specs.Received.{IsMadeIf, count_said, received_says}
 
 -- ---- casts
 
--- a cast of this load was made and is answered so, and this is its entry
-pub record CastsOnEach {D : Type 0} (Has : MemberState → MemberState → Load → D → Type 0) (load : Load) (old new : Core) (noted : D × Entry) : Type 0 where
-  pub goes_on : GoesOn (ToCast load) old new
-  pub done : OnEach old (λ m. Has m (state_after m (ToCast load)) load noted.0)
-  pub entry : OnEach old (λ m. entry_by m (ToCast load) ≡ Some (entry_fields noted.1))
+-- the events that joined these
+abbrev pub added : List Event → List Event → List Event
+added before after = drop (length before) after
 
-pub record AnswersLoad {D R : Type 0} (Has : MemberState → MemberState → Load → D → Type 0) (Refuses : MemberState → Load → R → Type 0) (load : Load) (old new : Core)
-    (result : Result (D × Entry) R) : Type 0 where
-  pub core : IsCore new
-  pub casts : IfOk result (CastsOnEach Has load old new)
-  pub refused : IfErr result (λ refusal. OnEach old (λ m. Refuses m load refusal))
-  pub same : OnErr result (new ≡ old)
-
-abbrev pub AnswersCastOnEach : Load → Core → Core → Result (CastDone × Entry) CastRefusal → Type 0
-AnswersCastOnEach load old new result = AnswersLoad HasCast RefusesExactly load old new result
-
-abbrev pub AnswersBurstOnEach : Load → Core → Core → Result (BurstDone × Entry) BurstRefusal → Type 0
-AnswersBurstOnEach load old new result = AnswersLoad HasCastBurst RefusesBurstExactly load old new result
+-- the definition casts this load, and this is its frame, its entry, and its events
+pub record HasCastWith (m : MemberState) (load : Load) (cast : List ℕ × Entry) (events : List Event) : Type 0 where
+  pub answer : answer_to_cast m load ≡ Ok (next_in m load)
+  pub frame : cast.0 ≡ text_of (CastFrame (next_in m load))
+  pub entry : entry_by m (ToCast load) ≡ Some (entry_fields cast.1)
+  pub events_are : events ≡ new_events m.seat (facts_in m) (OwnCast (next_in m load))
 
 -- what is told of a cast whose first message has this time
 abbrev pub done_at : Made → List ℕ → BurstDone
@@ -104,16 +95,7 @@ pub record IsMade (casting : Casting) (state : State) : Type 0 where
   pub load : Load
   pub can : CanKeepOnEach load state casting
 
--- it is kept, or there was no memory
-pub record HasKeptMade {E : Type 0} (load : Load) (old new : Core) (result : Result (BurstDone × Entry) E) : Type 0 where
-  pub core : IsCore new
-  pub casts : IfOk result (CastsOnEach HasCastBurst load old new)
-  pub same : OnErr result (new ≡ old)
-
-abbrev pub KeepsMade : {E : Type 0} → Casting → State → State → Result (BurstDone × Entry) E → Type 0
-KeepsMade casting old new result = (load : Load) → CanKeepOnEach load old casting → HasKeptMade load (core_of old) (core_of new) result
-
--- so it is where its events join the events
+-- it is kept and its events join the events, or there was no memory
 pub record HasJoinedMade {E : Type 0} (wanted : Wanted) (load : Load) (old new : Core) (before after : List Event) (result : Result (Made × Entry) E) : Type 0 where
   pub core : IsCore new
   pub casts : IfOk result (JoinsCastOnEach wanted load old new before after)
@@ -148,7 +130,7 @@ pub record AnswersTickOnEach (wanted : Wanted) (old new : Core) (result : Result
 
 -- the messages whose deliveries joined the events
 abbrev pub joined : List Event → List Event → List Message
-joined before after = delivered_by (drop (length before) after)
+joined before after = delivered_by (added before after)
 
 -- received bytes were taken, or were a repeat, as the definition says, and these messages are what they deliver
 pub record HasReceivedWith (old new : MemberState) (bytes : List ℕ) (r : Received) (messages : List Message) : Type 0 where

@@ -14,7 +14,6 @@ ghost use Rattle.cb_member.specs.Readings.{acknowledged_by_in, delivered_of_in, 
 ghost use Rattle.cb_member.specs.Received.{HasReceivedFrame, HasTakenToSend};
 
 use crate::kept::Kept;
-use crate::own_cast::of_one;
 use crate::readings::Delayed;
 use crate::received::Received;
 use crate::wanted::Wanted;
@@ -195,7 +194,7 @@ impl Member {
         ensures same { OnErr result (self.new ≡ self.old) }
     {
         let made = self.kept.cast_wanting(payload, Wanted::ANSWER)?;
-        Ok(of_one(made.told()))
+        Ok(made.cast_done())
     }
 
     /// Casts a payload as `cast` does, and hands out a copy of the entry that was added.
@@ -206,9 +205,9 @@ impl Member {
         ensures refused { IfErr result (RefusesExactly self.old (One payload.now)) }
         ensures same { OnErr result (self.new ≡ self.old) }
     {
-        let made = self.kept.cast_wanting(payload, Wanted::ALL)?;
-        let (done, noted) = made.told_noted();
-        Ok((of_one(done), noted))
+        let mut made = self.kept.cast_wanting(payload, Wanted::ALL)?;
+        let noted = made.noted();
+        Ok((made.cast_done(), noted))
     }
 
     /// Casts a message of each payload, all in one frame: 1 to 32 payloads of up to 1,024 bytes together. Their numbers follow one another,
@@ -222,7 +221,7 @@ impl Member {
         ensures same { OnErr result (self.new ≡ self.old) }
     {
         let made = self.kept.cast_burst_wanting(payloads, Wanted::ANSWER)?;
-        Ok(made.told())
+        Ok(made.burst_done())
     }
 
     /// Casts a burst as `cast_burst` does, and hands out a copy of the one entry that was added.
@@ -237,8 +236,9 @@ impl Member {
         ensures refused { IfErr result (RefusesBurstExactly self.old (many_of payloads.now)) }
         ensures same { OnErr result (self.new ≡ self.old) }
     {
-        let made = self.kept.cast_burst_wanting(payloads, Wanted::ALL)?;
-        Ok(made.told_noted())
+        let mut made = self.kept.cast_burst_wanting(payloads, Wanted::ALL)?;
+        let noted = made.noted();
+        Ok((made.burst_done(), noted))
     }
 
     /// Takes received bytes: delivers what they make ready, or answers a request. The deliveries stand at the end of the events.
@@ -258,16 +258,16 @@ impl Member {
     /// Takes received bytes as `receive` does, and hands out a copy of the entry, where one was added, with what is to be sent.
     pub fn receive_noted(
         &mut self,
-        bytes: Bytes,
+        bytes: &Bytes,
     ) -> Result<(Vec<Outgoing>, Option<Entry>), ArriveRefusal>
         ensures taken { IfOk result (λ noted.
-            HasTakenToSend self.old self.new bytes noted.0.items) }
-        ensures entry { IfOk result (λ noted. entry_by self.old (ToTake bytes)
+            HasTakenToSend self.old self.new bytes.now noted.0.items) }
+        ensures entry { IfOk result (λ noted. entry_by self.old (ToTake bytes.now)
             ≡ option_map entry_fields noted.1) }
-        ensures refused { IfErr result (RefusesArrival self.old bytes) }
+        ensures refused { IfErr result (RefusesArrival self.old bytes.now) }
         ensures same { OnErr result (self.new ≡ self.old) }
     {
-        let taken = self.kept.receive_wanting(&bytes, false, Wanted::ENTRY)?;
+        let taken = self.kept.receive_wanting(bytes, false, Wanted::ENTRY)?;
         Ok(taken.sent(self.kept.alloc()))
     }
 

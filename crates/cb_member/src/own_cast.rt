@@ -9,7 +9,7 @@ ghost use Rattle.cb_stability.specs.Sent.{room_of};
 ghost use Rattle.cb_history.specs.Answers.{next_cast};
 ghost use Rattle.cb_history.specs.CastFault.{fault_told};
 ghost use Rattle.cb_member.specs.State.{IsState, OnAll};
-ghost use Rattle.cb_member.specs.Casting.{as_cast_done, messages_made, time_of_last, next_messages, CanCast, JudgesLoad, MakesCasting, IsSameButBlock, CanKeepCast, HasKept};
+ghost use Rattle.cb_member.specs.Casting.{messages_made, time_of_last, next_messages, CanCast, JudgesLoad, MakesCasting, IsSameButBlock, CanKeepCast, HasKept};
 
 use crate::state::State;
 use crate::text::{another, cast_text, payload_in};
@@ -17,8 +17,8 @@ use bytes::Bytes;
 use cb_delay::{Event, Message};
 use cb_diffs::difference;
 use cb_frames::{Cast, LONGEST_PAYLOAD};
+use cb_history::CastRefusal;
 use cb_history::laws::relays_keep_what_is_handed_on;
-use cb_history::{BurstDone, CastDone, CastRefusal};
 use cb_times::{Name, NoMemory, VectorTime};
 
 /// A cast of one message or several that can be kept without memory.
@@ -151,22 +151,5 @@ pub fn last_time<'a>(first: &'a Message, others: &'a [Message]) -> &'a VectorTim
     match others.last() {
         Some(message) => &message.time,
         None => &first.time,
-    }
-}
-
-/// What is told of a cast of one message.
-pub fn of_one(done: BurstDone) -> CastDone
-    ensures { result ≡ as_cast_done done }
-{
-    let BurstDone {
-        first,
-        count: _,
-        time,
-        out,
-    } = done;
-    CastDone {
-        name: first,
-        time,
-        out,
     }
 }

@@ -3,13 +3,14 @@
 ghost use Rattle.std.specs.Prelude.{◌≡◌, ◌≢◌, ℕ, List, [], true, IfOk, Some, None, option_map};
 ghost use Rattle.cb_history.specs.Answers.{arrival_says};
 ghost use Rattle.cb_history.specs.Facts.{entry_fields};
+ghost use Rattle.cb_member.specs.Casting.{as_cast_done};
 ghost use Rattle.cb_member.specs.CoreCalls.{done_at};
 ghost use Rattle.cb_member.specs.Received.{received_says, sent_by};
 
 use crate::received::Received;
 use bytes::Bytes;
 use cb_delay::Message;
-use cb_history::{Arrival, BurstDone, Entry, Outgoing, Ticked};
+use cb_history::{Arrival, BurstDone, CastDone, Entry, Outgoing, Ticked};
 use cb_times::{Name, NoMemory, VectorTime};
 use std::alloc::Global;
 
@@ -94,8 +95,27 @@ impl Made {
         self.out
     }
 
-    /// What is told of the cast to a caller who wanted that.
-    pub fn told(self) -> BurstDone
+    /// What is told of a cast of one message to a caller who wanted that.
+    pub fn cast_done(self) -> CastDone
+        requires { self.time ≢ None }
+        ensures { (time : List ℕ) → self.time ≡ Some time
+            → result ≡ as_cast_done (done_at self time) }
+    {
+        let Made {
+            first: name,
+            count: _,
+            time,
+            out,
+            noted: _,
+        } = self;
+        let Some(time) = time else {
+            unreachable!("it was wanted")
+        };
+        CastDone { name, time, out }
+    }
+
+    /// What is told of a burst to a caller who wanted that.
+    pub fn burst_done(self) -> BurstDone
         requires { self.time ≢ None }
         ensures { (time : List ℕ) → self.time ≡ Some time → result ≡ done_at self time }
     {
@@ -117,17 +137,16 @@ impl Made {
         }
     }
 
-    /// What is told of the cast, and the copy of its entry, to a caller who wanted both.
-    pub fn told_noted(mut self) -> (BurstDone, Entry)
-        requires time { self.time ≢ None }
-        requires noted { self.noted ≢ None }
-        ensures done { (time : List ℕ) → self.time ≡ Some time → result.0 ≡ done_at self time }
-        ensures noted { self.noted ≡ Some result.1 }
+    /// Takes the copy of the entry, for a caller who wanted that.
+    pub fn noted(&mut self) -> Entry
+        requires { self.old.noted ≢ None }
+        ensures noted { self.old.noted ≡ Some result }
+        ensures others { self.new ≡ record self.old { noted = None } }
     {
         let Some(noted) = self.noted.take() else {
             unreachable!("it was wanted")
         };
-        (self.told(), noted)
+        noted
     }
 }
 

@@ -124,7 +124,7 @@ impl Desk {
         if make_room(&mut self.post, 1).is_err() {
             return Err(NotTaken::Refused(ArriveRefusal::NoMemory));
         }
-        match self.member.receive_noted(bytes) {
+        match self.member.receive_noted(&bytes) {
             Ok((out, noted)) => match self.enter(keeper, out, noted) {
                 Ok(()) => Ok(()),
                 Err(fault) => Err(NotTaken::NotKept(fault)),

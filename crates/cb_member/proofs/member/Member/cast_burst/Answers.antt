@@ -8,11 +8,11 @@ use Rattle.cb_member.proofs.member.Member.cast_burst.Goals as goal
 pub invariant_of-self-2 : goal.invariant_of-self-2
 invariant_of-self-2 c = made_keeps _ _ _ _ _ c.self.invariant c.in_ok-made.ensures.done
 
-pub told-requires : goal.told-requires
-told-requires c = time_is_told _ _ _ _ c.in_ok-made.made c.self.invariant c.in_ok-made.ensures.done refl
+pub burst_done-requires : goal.burst_done-requires
+burst_done-requires c = time_is_told _ _ _ _ c.in_ok-made.made c.self.invariant c.in_ok-made.ensures.done refl
 
 pub returns-clause-done : goal.returns-clause-done
-returns-clause-done c = rw (← c.self.view_is) (made_burst _ _ _ _ c.in_ok-made.made c.self.invariant c.in_ok-made.ensures.done c.told.result c.told.ensures refl)
+returns-clause-done c = rw (← c.self.view_is) (made_burst _ _ _ _ c.in_ok-made.made c.self.invariant c.in_ok-made.ensures.done c.burst_done.result c.burst_done.ensures refl)
 
 pub returns-in_err-made-clause-refused : goal.returns-in_err-made-clause-refused
 returns-in_err-made-clause-refused c =

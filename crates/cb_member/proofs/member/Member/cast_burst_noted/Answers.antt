@@ -8,17 +8,17 @@ use Rattle.cb_member.proofs.member.Member.cast_burst_noted.Goals as goal
 pub invariant_of-self-2 : goal.invariant_of-self-2
 invariant_of-self-2 c = made_keeps _ _ _ _ _ c.self.invariant c.in_ok-made.ensures.done
 
-pub told_noted-requires-clause-time : goal.told_noted-requires-clause-time
-told_noted-requires-clause-time c = time_is_told _ _ _ _ c.in_ok-made.made c.self.invariant c.in_ok-made.ensures.done refl
+pub noted-requires : goal.noted-requires
+noted-requires c = entry_is_told _ _ _ _ c.in_ok-made.made c.self.invariant c.in_ok-made.ensures.done refl
 
-pub told_noted-requires-clause-noted : goal.told_noted-requires-clause-noted
-told_noted-requires-clause-noted c = entry_is_told _ _ _ _ c.in_ok-made.made c.self.invariant c.in_ok-made.ensures.done refl
+pub burst_done-requires : goal.burst_done-requires
+burst_done-requires c = rw c.noted.ensures.others (time_is_told _ _ _ _ c.in_ok-made.made c.self.invariant c.in_ok-made.ensures.done refl)
 
 pub returns-clause-done : goal.returns-clause-done
-returns-clause-done c = rw (← c.self.view_is) (made_burst _ _ _ _ c.in_ok-made.made c.self.invariant c.in_ok-made.ensures.done c.told_noted.result.0 c.told_noted.ensures.done refl)
+returns-clause-done c = rw (← c.self.view_is) (made_burst _ _ _ _ c.in_ok-made.made c.self.invariant c.in_ok-made.ensures.done c.burst_done.result (rw (← c.noted.ensures.others) c.burst_done.ensures) refl)
 
 pub returns-clause-entry : goal.returns-clause-entry
-returns-clause-entry c = rw (← c.self.view_is) (made_entry _ _ _ _ c.in_ok-made.made c.self.invariant c.in_ok-made.ensures.done c.told_noted.result.1 c.told_noted.ensures.noted refl)
+returns-clause-entry c = rw (← c.self.view_is) (made_entry _ _ _ _ c.in_ok-made.made c.self.invariant c.in_ok-made.ensures.done c.noted.result c.noted.ensures.noted refl)
 
 pub returns-in_err-made-clause-refused : goal.returns-in_err-made-clause-refused
 returns-in_err-made-clause-refused c =

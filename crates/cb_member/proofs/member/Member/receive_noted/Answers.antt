@@ -16,4 +16,4 @@ returns-clause-entry c = rw (c.sent.ensures.noted, ← c.self.view_is) (received
 pub returns-in_err-taken-clause-refused : goal.returns-in_err-taken-clause-refused
 returns-in_err-taken-clause-refused c =
     let exit = err_from_is_err_and c.from_residual.result c.from_residual.ensures.1 in
-    rw (exit.1, exit.2, ← c.self.view_is) (of_member c.self.inside.kept c.self.invariant (λ m. RefusesArrival m c.args.bytes c.in_err-taken.field-0.0) c.in_err-taken.ensures.refused)
+    rw (exit.1, exit.2, ← c.self.view_is) (of_member c.self.inside.kept c.self.invariant (λ m. RefusesArrival m c.args.bytes.now c.in_err-taken.field-0.0) c.in_err-taken.ensures.refused)
