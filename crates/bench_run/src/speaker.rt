@@ -63,7 +63,7 @@ impl Speaker for Member {
     }
 }
 
-/// A member without history, and the list in which it hands out its casts and deliveries.
+/// A member without history, and the list that its casts and deliveries join.
 #[derive(Drop)]
 pub struct Core {
     member: CoreMember,

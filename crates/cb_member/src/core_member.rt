@@ -222,9 +222,9 @@ impl CoreMember {
         self.state.help_among(i, members)
     }
 
-    /// Casts a message of this payload, of up to 1,024 bytes. Its event, which has its name and its
-    /// time, joins the caller's events. Its frame, which goes to all others, is handed out, and the
-    /// entry that a history would have of it.
+    /// Casts a message of this payload, of up to 1,024 bytes, and returns the frame that goes to all
+    /// others and the entry that a history would have of the cast. The event, which has the
+    /// message's name and time, joins the caller's events.
     ///
     /// A refusal is the definition's, in the order of `CastRefusal`; `NoMemory` stands only in
     /// place of a cast.
@@ -255,9 +255,9 @@ impl CoreMember {
     }
 
     /// Casts a message of each payload, all in one frame: 1 to 32 payloads of up to 1,024 bytes
-    /// together. Their numbers follow one another, and so do their times. Their events join the
-    /// caller's; the frame, which goes to all others, is handed out, and the one entry that a
-    /// history would have of it.
+    /// together. Their numbers follow one another, and so do their times. Returns the frame that goes
+    /// to all others and the one entry that a history would have of the burst. The events of its
+    /// messages join the caller's events.
     ///
     /// A refusal is the definition's, in the order of `BurstRefusal`; `NoMemory` stands only in
     /// place of a burst.
@@ -394,8 +394,8 @@ impl CoreMember {
     }
 
     /// Takes received bytes as `receive_noted` does, with the copies that are wanted, for a caller
-    /// who may have no room for an entry. Where none may be added, bytes of which a history would
-    /// have one are refused as `HistoryFull`, in its place in the order of `ArriveRefusal`.
+    /// that may have no room for an entry. Without room, bytes of which a history would have an
+    /// entry are refused as `HistoryFull`, in its place in the order of `ArriveRefusal`.
     pub(crate) fn receive_wanting(
         &mut self,
         bytes: &Bytes,

@@ -479,7 +479,7 @@ fn forget<T: Drop>(limit: usize, list: &mut Vec<T>, before: usize)
     }
 }
 
-/// The first so many go.
+/// Drops this many from the front of the list.
 fn drop_front<T: Drop>(list: &mut Vec<T>, count: usize)
     ensures { list.new.items ≡ drop count list.old.items }
 {

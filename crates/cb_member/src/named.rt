@@ -19,7 +19,7 @@ pub struct Named {
 }
 
 impl Named {
-    /// Without names, with room for so many.
+    /// Without names, with room for this many.
     pub fn with_room(alloc: Global, bytes: &Bytes, room: usize) -> Result<Named, NoMemory>
         ensures { IfOk result (HasRoomForNames bytes.now room) }
     {

@@ -117,7 +117,7 @@ impl State {
         })
     }
 
-    /// Keeps the cast that was made, of so many messages, with which this is the time. This takes no memory.
+    /// Keeps the cast that was made: it has this many messages, and this is the time with them. This takes no memory.
     pub fn keep_cast(&mut self, time: &VectorTime, sent: Bytes, count: u32)
         requires { CanKeepCast time.now sent count self.old }
         ensures { HasKept time.now sent count self.old self.new }

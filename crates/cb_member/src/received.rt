@@ -13,7 +13,7 @@ use std::alloc::Global;
 pub enum Received {
     /// The frame was taken.
     Accepted {
-        /// How many messages were delivered by it: the last so many of the events.
+        /// How many messages were delivered by it: their events are the last ones.
         delivered: usize,
         /// Whether the member's state changed, so that the history has an entry more.
         changed: bool,

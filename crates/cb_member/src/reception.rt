@@ -71,7 +71,7 @@ impl Reception {
         self.buffers[unit.sender() as usize].ready_with(unit.first(), unit.last())
     }
 
-    /// Makes room for so many spares more of this sender.
+    /// Makes room for this many more spares of this sender.
     pub fn reserve(&mut self, sender: u32, count: usize) -> Result<(), NoMemory>
         requires { sender < length self.old.spares.items }
         ensures same { IsAlike self.old self.new }

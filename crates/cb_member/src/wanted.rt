@@ -95,7 +95,7 @@ impl Made {
         self.out
     }
 
-    /// What is told of a cast of one message to a caller who wanted that.
+    /// The answer to a cast of one message, for a caller that wanted it.
     pub fn cast_done(self) -> CastDone
         requires { self.time ≢ None }
         ensures { (time : List ℕ) → self.time ≡ Some time
@@ -114,7 +114,7 @@ impl Made {
         CastDone { name, time, out }
     }
 
-    /// What is told of a burst to a caller who wanted that.
+    /// The answer to a burst, for a caller that wanted it.
     pub fn burst_done(self) -> BurstDone
         requires { self.time ≢ None }
         ensures { (time : List ℕ) → self.time ≡ Some time → result ≡ done_at self time }
@@ -137,7 +137,7 @@ impl Made {
         }
     }
 
-    /// Takes the copy of the entry, for a caller who wanted that.
+    /// Takes the copy of the entry, for a caller that wanted it.
     pub fn noted(&mut self) -> Entry
         requires { self.old.noted ≢ None }
         ensures noted { self.old.noted ≡ Some result }

@@ -75,7 +75,7 @@ const ORDERS: &[&[Step]] = &[
 #[derive(Drop)]
 struct Both {
     core: CoreMember,
-    /// What the core cast and delivered in all steps.
+    /// The core's casts and deliveries in all steps.
     events: Vec<Event>,
     member: Member,
 }

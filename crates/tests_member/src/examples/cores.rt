@@ -197,7 +197,7 @@ impl Noting {
     }
 }
 
-/// What a member with a history tells of a cast that has these events, and its entry.
+/// The answer of a member with a history to the cast that has this event, and the cast's entry.
 fn told_of_cast(
     cast: Result<(Bytes, Entry), CastRefusal>,
     events: &[Event],
@@ -215,7 +215,7 @@ fn told_of_cast(
     Ok((Ok(told), Some(entry)))
 }
 
-/// What a member with a history tells of a burst that has these events, and its entry.
+/// The answer of a member with a history to the burst that has these events, and the burst's entry.
 fn told_of_burst(
     burst: Result<(Bytes, Entry), BurstRefusal>,
     events: &[Event],
