@@ -124,7 +124,9 @@ impl Desk {
         if make_room(&mut self.post, 1).is_err() {
             return Err(NotTaken::Refused(ArriveRefusal::NoMemory));
         }
-        match self.member.receive_noted(&bytes) {
+        let received = self.member.receive_noted(&bytes);
+        drop(bytes);
+        match received {
             Ok((out, noted)) => match self.enter(keeper, out, noted) {
                 Ok(()) => Ok(()),
                 Err(fault) => Err(NotTaken::NotKept(fault)),
