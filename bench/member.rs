@@ -144,7 +144,7 @@ impl<const FIELDS: usize, R: Record, D: Duties<FIELDS>> Member<FIELDS, R, D> {
             duties: D::new(size, window, me),
             now: [0; FIELDS],
             expanded: vec![Counts::ZERO; size],
-            kept: vec![None; size * window as usize],
+            kept: (0..size * window as usize).map(|_| None).collect(),
             kept_counts: [0; FIELDS],
             waiting: (0..size).map(|_| Default::default()).collect(),
             held: 0,
@@ -185,7 +185,7 @@ impl<const FIELDS: usize, R: Record, D: Duties<FIELDS>> Member<FIELDS, R, D> {
     }
 
     pub fn cast(&mut self, payload: &[u8]) -> Result<Frame, CastRefusal> {
-        self.judge_payloads(&[payload])?;
+        self.judge_casts(1, payload.len())?;
         self.put_cast(CAST);
         self.put_payload(0, payload);
         Ok(self.send(1))
@@ -200,7 +200,7 @@ impl<const FIELDS: usize, R: Record, D: Duties<FIELDS>> Member<FIELDS, R, D> {
         if payloads.len() > MOST_MESSAGES {
             return Err(CastRefusal::BurstTooLong);
         }
-        self.judge_payloads(payloads)?;
+        self.judge_casts(payloads.len(), payloads.iter().map(|payload| payload.len()).sum())?;
         self.put_cast(BURST);
         put(&mut self.text, payloads.len() as u32);
         for (place, payload) in payloads.iter().enumerate() {
@@ -209,11 +209,12 @@ impl<const FIELDS: usize, R: Record, D: Duties<FIELDS>> Member<FIELDS, R, D> {
         Ok(self.send(payloads.len()))
     }
 
-    fn judge_payloads(&mut self, payloads: &[&[u8]]) -> Result<(), CastRefusal> {
-        if payloads.iter().map(|payload| payload.len()).sum::<usize>() > LONGEST_PAYLOAD {
+    /// Whether so many messages may be cast, whose payloads have so many bytes.
+    fn judge_casts(&mut self, count: usize, length: usize) -> Result<(), CastRefusal> {
+        if length > LONGEST_PAYLOAD {
             return Err(CastRefusal::PayloadTooLong);
         }
-        if !self.has_room(payloads.len()) {
+        if !self.has_room(count) {
             return Err(CastRefusal::WindowFull);
         }
         if self.record.is_full() {
@@ -320,11 +321,11 @@ impl<const FIELDS: usize, R: Record, D: Duties<FIELDS>> Member<FIELDS, R, D> {
         }
         let taken = self.expanded[sender].fields[sender];
         if numbers.first <= taken || self.kept_counts[sender] > 0 {
-            let count = (numbers.first..=numbers.last).filter(|number| self.is_there(sender, *number)).count();
-            if count as u32 == numbers.last - numbers.first + 1 {
+            let there = self.count_there(sender, numbers);
+            if there == numbers.count() {
                 return Ok(false);
             }
-            if count > 0 {
+            if there > 0 {
                 return Err(Refusal::Overlap);
             }
         }
@@ -339,7 +340,14 @@ impl<const FIELDS: usize, R: Record, D: Duties<FIELDS>> Member<FIELDS, R, D> {
         sender * self.window as usize + (number % self.window) as usize
     }
 
-    /// Whether the message is expanded or kept.
+    /// How many of the messages are expanded or kept.
+    fn count_there(&self, sender: usize, numbers: Numbers) -> u32 {
+        if numbers.first == numbers.last {
+            return u32::from(self.is_there(sender, numbers.first));
+        }
+        (numbers.first..=numbers.last).map(|number| u32::from(self.is_there(sender, number))).sum()
+    }
+
     fn is_there(&self, sender: usize, number: u32) -> bool {
         let is_kept = || !self.is_far(sender, number) && self.kept[self.place(sender, number)].is_some();
         number <= self.expanded[sender].fields[sender] || is_kept()
@@ -367,11 +375,12 @@ impl<const FIELDS: usize, R: Record, D: Duties<FIELDS>> Member<FIELDS, R, D> {
     }
 
     fn keep(&mut self, sender: usize, numbers: Numbers, frame: &Frame) {
-        for number in numbers.first..=numbers.last {
-            let place = self.place(sender, number);
+        let count = numbers.count();
+        self.kept_counts[sender] += count;
+        self.held += count as usize;
+        for offset in 0..count {
+            let place = self.place(sender, numbers.first + offset);
             self.kept[place] = Some(frame.clone());
-            self.kept_counts[sender] += 1;
-            self.held += 1;
         }
     }
 
@@ -442,7 +451,7 @@ impl<const FIELDS: usize, R: Record, D: Duties<FIELDS>> Member<FIELDS, R, D> {
 
     /// Expands the sender's kept frames as long as the next one is there.
     fn expand_kept(&mut self, sender: usize) {
-        while let Some(frame) = self.kept_next(sender) {
+        while let Some(frame) = self.take_kept_next(sender) {
             let mut bytes = &frame[1..];
             let before = &self.expanded[sender];
             let mut time = *before;
@@ -452,22 +461,25 @@ impl<const FIELDS: usize, R: Record, D: Duties<FIELDS>> Member<FIELDS, R, D> {
             let numbers = Numbers { first: head.first, last: head.first + (count as u32 - 1) };
             time.count_own(sender, numbers);
             self.expanded[sender] = time;
-            self.forget(sender, numbers);
+            self.kept_counts[sender] -= count as u32;
+            self.held -= count;
+            if count > 1 {
+                self.forget(sender, numbers);
+            }
             self.hold_all(sender, &frame, count);
         }
     }
 
-    fn kept_next(&self, sender: usize) -> Option<Frame> {
+    fn take_kept_next(&mut self, sender: usize) -> Option<Frame> {
         let next = self.expanded[sender].fields[sender].checked_add(1)?;
-        self.kept[self.place(sender, next)].clone()
+        let place = self.place(sender, next);
+        self.kept[place].take()
     }
 
     fn forget(&mut self, sender: usize, numbers: Numbers) {
-        for number in numbers.first..=numbers.last {
-            let place = self.place(sender, number);
+        for offset in 0..numbers.count() {
+            let place = self.place(sender, numbers.first + offset);
             self.kept[place] = None;
-            self.kept_counts[sender] -= 1;
-            self.held -= 1;
         }
     }
 
@@ -557,7 +569,7 @@ impl<const FIELDS: usize, R: Record, D: Duties<FIELDS>> Member<FIELDS, R, D> {
         }
         if asked == self.me {
             self.trim();
-            answer(self.sent.iter(), &ranges, requester, out);
+            answer(asked_of(&self.sent, &ranges), &ranges, requester, out);
         }
         let begun = self.record.begin();
         Ok(Arrival::Accepted(begun.events..begun.events, false))
@@ -660,6 +672,13 @@ impl<const FIELDS: usize, R: Record, D: Duties<FIELDS>> Member<FIELDS, R, D> {
 
 pub fn is_above<const FIELDS: usize>(values: &[u32; FIELDS], counts: &[u32; FIELDS]) -> bool {
     values.iter().zip(counts).fold(false, |above, (value, count)| above | (value > count))
+}
+
+/// Of these frames, whose numbers rise, those between the first number that is asked for and the last one.
+fn asked_of<'a>(units: &'a VecDeque<Unit>, ranges: &Ranges) -> impl Iterator<Item = &'a Unit> {
+    let asked = ranges.span();
+    let start = units.partition_point(|unit| unit.numbers.last < asked.first);
+    units.range(start..).take_while(move |unit| unit.numbers.first <= asked.last)
 }
 
 /// Sends the first of these frames that are asked for.

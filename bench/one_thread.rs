@@ -55,6 +55,12 @@ impl Network {
         self.queues[to].pop();
     }
 
+    fn send_all(&mut self, from: usize, out: &mut Vec<Outgoing>) {
+        for out in out.drain(..) {
+            self.send_from(from, out);
+        }
+    }
+
     fn send_from(&mut self, from: usize, out: Outgoing) {
         match out.to {
             Some(to) => self.send(to, out.frame),
@@ -169,8 +175,8 @@ impl<const FIELDS: usize, R: Record, D: Duties<FIELDS>> Run<FIELDS, R, D> {
                     self.tally.add(me, event.name, time);
                 }
             }
-            for out in self.out.drain(..) {
-                self.network.send_from(me, out);
+            if !self.out.is_empty() {
+                self.network.send_all(me, &mut self.out);
             }
         }
     }
@@ -178,9 +184,7 @@ impl<const FIELDS: usize, R: Record, D: Duties<FIELDS>> Run<FIELDS, R, D> {
     fn tick_all(&mut self) {
         for me in 0..self.members.len() {
             if self.members[me].tick(&mut self.out).is_ok() {
-                for out in self.out.drain(..) {
-                    self.network.send_from(me, out);
-                }
+                self.network.send_all(me, &mut self.out);
             }
         }
     }

@@ -253,6 +253,12 @@ pub struct Numbers {
     pub last: u32,
 }
 
+impl Numbers {
+    pub fn count(&self) -> u32 {
+        self.last - self.first + 1
+    }
+}
+
 /// The frame of some messages of one sender.
 pub struct Unit {
     pub numbers: Numbers,
@@ -291,6 +297,7 @@ pub struct Place {
 }
 
 /// Where the payloads of a frame stand, and how many there are. They end the frame.
+#[inline(always)]
 pub fn read_payloads(frame: &[u8], bytes: &[u8], first: u32, places: &mut [Place; MOST_MESSAGES]) -> Result<usize, Fault> {
     if frame[0] == BURST {
         return read_burst(frame, bytes, first, places);
@@ -302,6 +309,7 @@ pub fn read_payloads(frame: &[u8], bytes: &[u8], first: u32, places: &mut [Place
     Ok(1)
 }
 
+#[inline(never)]
 fn read_burst(frame: &[u8], bytes: &[u8], first: u32, places: &mut [Place; MOST_MESSAGES]) -> Result<usize, Fault> {
     let mut rest = bytes;
     let count = number(&mut rest)?;
@@ -369,6 +377,11 @@ pub struct Ranges {
 impl Ranges {
     pub fn as_slice(&self) -> &[Numbers] {
         &self.ranges[..self.count]
+    }
+
+    /// From the first number that is asked for to the last one.
+    pub fn span(&self) -> Numbers {
+        Numbers { first: self.ranges[0].first, last: self.ranges[self.count - 1].last }
     }
 }
 

@@ -114,6 +114,7 @@ impl Record for History {
         self.events.push(event);
     }
 
+    #[inline(always)]
     fn add_delivery(&mut self, event: Event) {
         self.names.push(event.name);
         self.events.push(event);
@@ -176,6 +177,7 @@ impl Record for Latest {
         self.events.push(event);
     }
 
+    #[inline(always)]
     fn add_delivery(&mut self, event: Event) {
         self.events.push(event);
     }
