@@ -106,3 +106,48 @@ impl Kind for Fair {
 fn main() -> ExitCode {
     one_thread::main_of::<Fair>()
 }
+
+#[cfg(test)]
+mod tests {
+    use super::OthersCasts;
+    use crate::member::record::Latest;
+    use crate::member::{Member, Outgoing};
+
+    type Fair = Member<4, Latest, OthersCasts<4>>;
+
+    /// Member 2 asks member 1 for the casts 1 to 2 of member 0.
+    const HELP: &[u8] = b"\x23\x07\x02\x01\x00\x01\x00\x01";
+    const STATUS_OF_2: &[u8] = b"\x12\x07\x02\x01\x00\x02";
+    const CASTS: [&[u8]; 2] = [b"\x11\x07\x00\x01\x00\x01a", b"\x11\x07\x00\x02\x00\x01b"];
+
+    /// What the member sends in answer, and to whom.
+    fn answers(member: &mut Fair, bytes: &[u8]) -> Vec<(Option<usize>, Vec<u8>)> {
+        let mut out = Vec::new();
+        assert!(member.arrive(&bytes.into(), &mut out).is_ok());
+        out.iter().map(|Outgoing { to, frame }| (*to, frame.to_vec())).collect()
+    }
+
+    fn helper_with(casts: &[&[u8]], window: u32) -> Fair {
+        let mut member = Fair::new(3, window, 1, Latest::default());
+        casts.iter().for_each(|cast| assert!(answers(&mut member, cast).is_empty()));
+        member
+    }
+
+    #[test]
+    fn a_helper_hands_on_what_it_delivered_until_all_have_it() {
+        let mut helper = helper_with(&CASTS, 4);
+        assert_eq!(answers(&mut helper, HELP), CASTS.map(|cast| (Some(2), cast.to_vec())));
+        answers(&mut helper, STATUS_OF_2);
+        assert_eq!(answers(&mut helper, HELP), []);
+    }
+
+    #[test]
+    fn a_helper_hands_on_as_many_frames_as_the_window_is_wide() {
+        assert_eq!(answers(&mut helper_with(&CASTS, 1), HELP), [(Some(2), CASTS[1].to_vec())]);
+    }
+
+    #[test]
+    fn a_helper_hands_on_nothing_that_waits() {
+        assert_eq!(answers(&mut helper_with(&CASTS[1..], 4), HELP), []);
+    }
+}

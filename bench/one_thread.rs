@@ -171,7 +171,7 @@ impl<const FIELDS: usize, R: Record, D: Duties<FIELDS>> Run<FIELDS, R, D> {
         for frame in self.inbox.drain(..) {
             let member = &mut self.members[me];
             if let Ok(Arrival::Accepted(deliveries, _)) = member.arrive(&frame, &mut self.out) {
-                for (event, time) in member.record.events(deliveries, member.size) {
+                for (event, time) in member.record.with_times(deliveries, member.size) {
                     self.tally.add(me, event.name, time);
                 }
             }

@@ -54,7 +54,7 @@ pub trait Record {
 
     /// These events with their times, where each has so many fields.
     #[allow(dead_code)]
-    fn events(&self, events: Range<usize>, size: usize) -> impl Iterator<Item = (&Event, &[u32])>;
+    fn with_times(&self, events: Range<usize>, size: usize) -> impl Iterator<Item = (&Event, &[u32])>;
 
     /// How many events there are.
     fn count(&self) -> usize;
@@ -134,7 +134,7 @@ impl Record for History {
         self.entries.push(Entry::Tick { status: status.clone() });
     }
 
-    fn events(&self, events: Range<usize>, size: usize) -> impl Iterator<Item = (&Event, &[u32])> {
+    fn with_times(&self, events: Range<usize>, size: usize) -> impl Iterator<Item = (&Event, &[u32])> {
         let times = &self.times[events.start * size..events.end * size];
         self.events[events].iter().zip(times.chunks_exact(size))
     }
@@ -188,7 +188,7 @@ impl Record for Latest {
 
     fn enter_tick(&mut self, _: &Frame) {}
 
-    fn events(&self, events: Range<usize>, size: usize) -> impl Iterator<Item = (&Event, &[u32])> {
+    fn with_times(&self, events: Range<usize>, size: usize) -> impl Iterator<Item = (&Event, &[u32])> {
         let times = &self.times[events.start * size..events.end * size];
         self.events[events].iter().zip(times.chunks_exact(size))
     }
