@@ -190,6 +190,7 @@ impl<const FIELDS: usize> Counts<FIELDS> {
 
 /// The first field in which the time is ahead, where there is none before `from`, and no field of `now` is large. First looks at all
 /// fields at once, where those of the time are small.
+#[inline(always)]
 pub fn next_ahead<const FIELDS: usize>(time: &[u32; FIELDS], is_small: bool, now: &[u32; FIELDS], from: usize) -> Option<usize> {
     let differences = time.iter().zip(now).map(|(field, now)| now.wrapping_sub(*field));
     if differences.fold(0, |all, difference| all | difference) >> 31 == 0 && is_small {
