@@ -1,8 +1,8 @@
 #!/usr/bin/env bash
-# Measures the members of a group in one thread (`crates/bench_member` with histories, `crates/bench_core` without) against two plain Rust programs that
-# are written for speed: `plain`, as one would write it who needs causal delivery alone, and `fair`, which has the proved member's other duties too
-# (`plain_member.rs` and `fair_member.rs` say which). Runs at some sizes, in order, with frames that are lost or come early, and by bursts of 8. All three
-# must print the same deliveries and digest.
+# Measures the members of a group in one thread (`crates/bench_member` with histories, `crates/bench_core` without) against two plain Rust
+# programs that are written for speed: `plain`, as one writes it who needs causal delivery alone, and `fair`, with the proved member's other
+# duties (`plain_member.rs`, `fair_member.rs`). They run at some sizes, in order, with frames that are lost or come early, and by bursts of 8.
+# All three must print the same deliveries and digest.
 #   member.sh count      instructions (callgrind) and allocations (dhat) of a delivery, and peak memory: these repeat from run to run
 #   member.sh count 10   the same with a tenth of the casts
 #   member.sh            processor time, the best of three; a number as the first word divides the casts
@@ -30,6 +30,9 @@ done
 for program in plain fair; do
     rustc --edition 2021 -O -C target-cpu=x86-64-v2 -o "$work/$program" "$here/${program}_member.rs"
 done
+# help frames come in no run
+rustc --edition 2021 --test -o "$work/tests" "$here/fair_member.rs"
+"$work/tests" --quiet > "$work/said" || (cat "$work/said" && false)
 python3 - "$work" "$proved" "$crates" "$how" "${1:-1}" "$(rustc --version)" "$(rt version)" <<'END'
 import concurrent.futures, os, re, subprocess, sys
 
@@ -85,48 +88,58 @@ def deliveries_of(row, said):
 
 
 def ratios(plain, fair, proved):
-    return f" {proved / plain:6.2f} {proved / fair:5.2f}"
+    return f"{proved / plain:7.2f}{proved / fair:6.2f}"
 
 
 def print_head(row, titles):
+    """How each is built, in front of the first row, and titles in front of the rows of each crate."""
     if row == rows[0]:
         print("program  built by")
         for program in programs:
-            print(f"{program:8} {kit + ', for x86-64-v2' if program == 'proved' else rustc + ', -O -C target-cpu=x86-64-v2'}")
+            print(f"{program:8} {f'{kit}, for x86-64-v2' if program == 'proved' else f'{rustc}, -O -C target-cpu=x86-64-v2'}")
     if row[1:] == rows[0][1:]:
         print(f"\n{titles}")
 
 
-def print_counts():
+def begin(row):
+    crate, size, way = row
+    return f"{'with' if crate == 'bench_member' else 'none':7} {size:4} {way:8}"
+
+
+def cells(counts, form):
+    return "".join(format(count, form) for count in counts)
+
+
+def count(row, runs):
     # Instructions, allocations and what is allocated are of a tenth of the casts: valgrind is slow. The peak of a process is of all of
     # them, since the system counts for a short run what this program had; without histories it is no more than that at any time.
+    said, instructions, allocations, most = zip(*runs)
+    deliveries = deliveries_of(row, said)
+    memory, title = [bytes / 1024 for bytes in most], "KB allocated at once"
+    if row[0] == "bench_member":
+        said, _, peaks = zip(*(run(command_of(program, row, divisor)) for program in programs))
+        memory, title = [peak / deliveries_of(row, said) for peak in peaks], "peak bytes a delivery"
+    names = "  plain   fair proved"
+    print_head(row, f"{'':21}{'instructions a delivery':36}{'allocations a delivery':24}{title}\n"
+        f"history size way     {names} /plain /fair  {names}   {names}")
+    print(begin(row), cells([it / deliveries for it in instructions], "7.0f"), ratios(*instructions), "  ",
+        cells([it / deliveries for it in allocations], "7.2f"), "   ", cells(memory, "7.0f"), sep="", flush=True)
+
+
+def print_counts():
     with concurrent.futures.ThreadPoolExecutor(os.cpu_count()) as pool:
-        found = {row: [pool.submit(counted, command_of(program, row, 10 * divisor)) for program in programs] for row in rows}
+        runs = {row: [pool.submit(counted, command_of(program, row, 10 * divisor)) for program in programs] for row in rows}
         for row in rows:
-            said, instructions, allocations, most = zip(*(it.result() for it in found[row]))
-            each = deliveries_of(row, said)
-            peak, unit = [bytes / 1024 for bytes in most], "allocated at once, KB"
-            if row[0] == "bench_member":
-                said, _, bytes = zip(*(run(command_of(program, row, divisor)) for program in programs))
-                all = deliveries_of(row, said)
-                peak, unit = [it / all for it in bytes], "peak bytes a delivery"
-            history = "with" if row[0] == "bench_member" else "none"
-            names = "  plain   fair  proved"
-            print_head(row, f"{'instructions a delivery':>45}{'allocations a delivery':>37}{unit:>25}\n"
-                f"history size way     {names} /plain /fair  {names}  {names}")
-            line = f"{history:7} {row[1]:4} {row[2]:8}" + "".join(f"{it / each:7.0f}" for it in instructions) + " " + ratios(*instructions)
-            line += "  " + "".join(f"{it / each:7.2f}" for it in allocations) + "   " + "".join(f"{it:7.0f}" for it in peak)
-            print(line, flush=True)
+            count(row, [it.result() for it in runs[row]])
 
 
 def print_times():
     for row in rows:
-        runs = [[run(command_of(program, row, divisor)) for program in programs] for _ in range(3)]
-        each = deliveries_of(row, [said for said, _, _ in runs[0]])
-        times = [1e9 * min(turn[place][1] for turn in runs) / each for place in range(len(programs))]
-        print_head(row, f"{'ns of a processor a delivery':>49}\nhistory size way        plain   fair  proved /plain /fair")
-        history = "with" if row[0] == "bench_member" else "none"
-        print(f"{history:7} {row[1]:4} {row[2]:8}" + "".join(f"{it:7.0f}" for it in times) + " " + ratios(*times), flush=True)
+        turns = [[run(command_of(program, row, divisor)) for program in programs] for _ in range(3)]
+        deliveries = deliveries_of(row, [said for said, _, _ in turns[0]])
+        times = [1e9 * min(time for _, time, _ in runs) / deliveries for runs in zip(*turns)]
+        print_head(row, f"{'':21}ns of a processor a delivery\nhistory size way       plain   fair proved /plain /fair")
+        print(begin(row), cells(times, "7.0f"), ratios(*times), sep="", flush=True)
 
 
 divisor = int(divisor)
