@@ -17,7 +17,7 @@ struct OthersCasts<const FIELDS: usize> {
     window: usize,
     /// A row for each member. Of its own casts a member has delivered the greatest number: it is never waited for.
     delivered: Vec<[u32; FIELDS]>,
-    /// Of each sender its accepted frames, by rising numbers: the delivered ones, as many as the window, and those that wait.
+    /// The accepted frames of each sender, by rising numbers, up to twice the window: those that wait, and as many that are delivered.
     relays: Vec<VecDeque<Unit>>,
 }
 
@@ -120,7 +120,7 @@ mod tests {
     const STATUS_OF_2: &[u8] = b"\x12\x07\x02\x01\x00\x02";
     const CASTS: [&[u8]; 2] = [b"\x11\x07\x00\x01\x00\x01a", b"\x11\x07\x00\x02\x00\x01b"];
 
-    /// What the member sends in answer, and to whom.
+    /// The frames that the member sends in answer, and to whom.
     fn answers(member: &mut Fair, bytes: &[u8]) -> Vec<(Option<usize>, Vec<u8>)> {
         let mut out = Vec::new();
         assert!(member.arrive(&bytes.into(), &mut out).is_ok());

@@ -22,7 +22,7 @@ use std::ops::Range;
 
 pub const LONGEST_HISTORY: usize = 16_777_216;
 
-/// What a member keeps of how much the others delivered, and of their frames.
+/// The part of a member that knows how much the others delivered, and keeps their frames.
 pub trait Duties<const FIELDS: usize> {
     /// Help frames are answered; else they are unknown.
     const HELPS: bool;
@@ -47,7 +47,7 @@ pub trait Duties<const FIELDS: usize> {
     /// Keeps what a status tells.
     fn hear(&mut self, sender: usize, values: &[u32; FIELDS]);
 
-    /// The frames of the sender that are handed on, where so many of its messages are delivered.
+    /// The frames of the sender that are handed on, where that many of its messages are delivered.
     fn handed_on(&self, sender: usize, delivered: u32) -> impl Iterator<Item = &Unit>;
 }
 
@@ -56,7 +56,7 @@ struct Waiting {
     number: u32,
     frame: Frame,
     payload: Place,
-    /// Where its time stands among the rows, and whether all fields are small.
+    /// The place of its time among the rows, and whether all fields are small.
     row: usize,
     is_small: bool,
 }
@@ -109,9 +109,9 @@ pub struct Member<const FIELDS: usize, R: Record, D: Duties<FIELDS>> {
     duties: D,
     /// How many messages of each member are delivered, own casts included.
     now: [u32; FIELDS],
-    /// Of each sender the time of its last expanded message; its own field is that message's number.
+    /// The time of each sender's last expanded message; its own field is that message's number.
     expanded: Vec<Counts<FIELDS>>,
-    /// Of each sender the frames that wait for those before them: at each number in them, modulo the window.
+    /// The frames of each sender that wait for those before them: at each number in them, modulo the window.
     kept: Vec<Option<Frame>>,
     kept_counts: [u32; FIELDS],
     waiting: Vec<VecDeque<Waiting>>,
@@ -119,7 +119,7 @@ pub struct Member<const FIELDS: usize, R: Record, D: Duties<FIELDS>> {
     held: usize,
     rows: Vec<[u32; FIELDS]>,
     free_rows: Vec<usize>,
-    /// Of each field the senders whose first waiting message needs more of it, as bits.
+    /// The senders whose first waiting message needs more of a field, for each field, as bits.
     blocked: [u64; FIELDS],
     /// The senders whose first waiting message may be delivered.
     ready: u64,
@@ -130,7 +130,7 @@ pub struct Member<const FIELDS: usize, R: Record, D: Duties<FIELDS>> {
     last_cast: [u32; FIELDS],
     last_told: Option<[u32; FIELDS]>,
     text: Vec<u8>,
-    /// Where the payloads of the frame at hand stand.
+    /// The places of the payloads in the frame at hand.
     payloads: [Place; MOST_MESSAGES],
 }
 
@@ -172,7 +172,7 @@ impl<const FIELDS: usize, R: Record, D: Duties<FIELDS>> Member<FIELDS, R, D> {
         stable
     }
 
-    /// Whether the window has room for so many casts more.
+    /// Whether the window has room for that many casts more.
     pub fn has_room(&mut self, count: usize) -> bool {
         self.now[self.me] as usize + count <= (self.trim() + self.window) as usize
     }
@@ -209,7 +209,7 @@ impl<const FIELDS: usize, R: Record, D: Duties<FIELDS>> Member<FIELDS, R, D> {
         Ok(self.send(payloads.len()))
     }
 
-    /// Whether so many messages may be cast, whose payloads have so many bytes.
+    /// Whether that many messages may be cast, whose payloads have `length` bytes together.
     fn judge_casts(&mut self, count: usize, length: usize) -> Result<(), CastRefusal> {
         if length > LONGEST_PAYLOAD {
             return Err(CastRefusal::PayloadTooLong);
@@ -247,7 +247,7 @@ impl<const FIELDS: usize, R: Record, D: Duties<FIELDS>> Member<FIELDS, R, D> {
         self.text.extend_from_slice(payload);
     }
 
-    /// The frame that was put together, of so many casts, which are made now.
+    /// The frame that was put together, of that many casts, which are made now.
     fn send(&mut self, count: usize) -> Frame {
         let frame = Frame::from(&self.text[..]);
         let first = self.now[self.me] + 1;
@@ -353,7 +353,7 @@ impl<const FIELDS: usize, R: Record, D: Duties<FIELDS>> Member<FIELDS, R, D> {
         number <= self.expanded[sender].fields[sender] || is_kept()
     }
 
-    /// Room for so many messages of the sender, and for all that they may let go.
+    /// Room for that many messages of the sender, and for all that they may let go.
     #[inline(always)]
     fn make_room(&mut self, sender: usize, count: usize) -> Result<(), Refusal> {
         if self.record.is_full() {
@@ -674,7 +674,7 @@ pub fn is_above<const FIELDS: usize>(values: &[u32; FIELDS], counts: &[u32; FIEL
     values.iter().zip(counts).fold(false, |above, (value, count)| above | (value > count))
 }
 
-/// Of these frames, whose numbers rise, those between the first number that is asked for and the last one.
+/// Those of these frames, whose numbers rise, between the first number that is asked for and the last one.
 fn asked_of<'a>(units: &'a VecDeque<Unit>, ranges: &Ranges) -> impl Iterator<Item = &'a Unit> {
     let asked = ranges.span();
     let start = units.partition_point(|unit| unit.numbers.last < asked.first);

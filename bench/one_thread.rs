@@ -1,5 +1,5 @@
 //! A group of causal broadcast members in one thread: the run of `plain_member.rs` and `fair_member.rs`, and of `crates/bench_run`. Words: SIZE
-//! WINDOW PAYLOAD CASTS LOST EXCHANGED, the last two as one frame in so many, 0 for none, then BURST, how many messages are cast at once, 1
+//! WINDOW PAYLOAD CASTS LOST EXCHANGED, the last two one frame in how many, 0 for none, then BURST, how many messages are cast at once, 1
 //! if not said, then `full` where the windows are filled first, and `core` for members without history.
 
 use crate::member::frames::{Frame, LONGEST_PAYLOAD, MOST_MESSAGES};
@@ -117,10 +117,10 @@ struct Words {
 /// How often the windows are filled: once so that all waits unexpanded, and once so that it waits expanded.
 const FILLINGS: u32 = 2;
 
-/// So many rounds after each filling nobody casts, until everything is asked for, delivered and known to be.
+/// The rounds after each filling in which nobody casts, until everything is asked for, delivered and known to be.
 const QUIET: u32 = 5;
 
-/// What is done in a round.
+/// The deeds of a round.
 #[derive(Clone, Copy, PartialEq)]
 enum Stage {
     /// All cast one message before they take anything, and of these all miss each.
@@ -223,7 +223,7 @@ impl<const FIELDS: usize, R: Record, D: Duties<FIELDS>> Run<FIELDS, R, D> {
         }
     }
 
-    /// The member casts so many messages, as long as it may.
+    /// The member casts that many messages, as long as it may.
     fn cast_some(&mut self, me: usize, count: u32) {
         let mut left = count.min(self.words.casts - self.made);
         while left > 0 {
@@ -237,7 +237,7 @@ impl<const FIELDS: usize, R: Record, D: Duties<FIELDS>> Run<FIELDS, R, D> {
         }
     }
 
-    /// The frame of so many messages more, where the member may cast them.
+    /// The frame of that many messages more, where the member may cast them.
     fn cast(&mut self, me: usize, count: usize) -> Option<Frame> {
         let member = &mut self.members[me];
         if self.words.burst == 1 {

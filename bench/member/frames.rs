@@ -289,7 +289,7 @@ pub fn cast_head(bytes: &mut &[u8]) -> Result<CastHead, Fault> {
     Ok(CastHead { group, sender, first })
 }
 
-/// Where a payload stands in its frame.
+/// The place of a payload in its frame.
 #[derive(Clone, Copy, Default)]
 #[allow(dead_code)]
 pub struct Place {
@@ -297,7 +297,7 @@ pub struct Place {
     pub length: u16,
 }
 
-/// Where the payloads of a frame stand, and how many there are. They end the frame.
+/// Finds the payloads, which end the frame, and says how many there are.
 #[inline(always)]
 pub fn read_payloads(frame: &[u8], bytes: &[u8], first: u32, places: &mut [Place; MOST_MESSAGES]) -> Result<usize, Fault> {
     if frame[0] == BURST {

@@ -1,4 +1,4 @@
-//! What is kept of what a member does: all of it, or the last call alone.
+//! The record of what a member does: all of it, or the last call alone.
 
 use super::frames::{Frame, Place};
 use std::collections::TryReserveError;
@@ -29,10 +29,10 @@ pub trait Record {
     /// Room for no entry more.
     fn is_full(&self) -> bool;
 
-    /// Room for one entry and so many deliveries.
+    /// Room for one entry and that many deliveries.
     fn reserve(&mut self, deliveries: usize, size: usize) -> Result<(), TryReserveError>;
 
-    /// What is added from now on belongs to one call.
+    /// A call begins, to which belongs all that is added from now on.
     fn begin(&mut self) -> Begun;
 
     /// Adds the time of the next event.
@@ -52,7 +52,7 @@ pub trait Record {
 
     fn enter_tick(&mut self, status: &Frame);
 
-    /// These events with their times, where each has so many fields.
+    /// These events with their times, each of `size` fields.
     #[allow(dead_code)]
     fn with_times(&self, events: Range<usize>, size: usize) -> impl Iterator<Item = (&Event, &[u32])>;
 
@@ -66,7 +66,7 @@ pub struct Begun {
     names: u32,
 }
 
-/// All entries, of which there may be so many, and all events.
+/// All entries, up to a limit, and all events.
 #[allow(dead_code)]
 pub struct History {
     limit: usize,

@@ -148,7 +148,7 @@ impl<M: Speaker> Run<M> {
         Ok(())
     }
 
-    /// The member casts so many messages, as long as it may.
+    /// The member casts that many messages, as long as it may.
     fn cast_some(&mut self, me: u32, count: u32) -> Result<(), NoMemory> {
         let mut left = u64::from(count).min(self.plan.casts.saturating_sub(self.made));
         for _ in 0..count {
@@ -166,7 +166,7 @@ impl<M: Speaker> Run<M> {
         Ok(())
     }
 
-    /// The frame of so many messages more, where the member may cast them.
+    /// The frame of that many messages more, where the member may cast them.
     fn cast(&mut self, me: u32, count: usize) -> Result<Option<Bytes>, NoMemory> {
         let Some(member) = self.members.get_mut(me as usize) else {
             return Ok(None);

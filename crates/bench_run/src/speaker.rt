@@ -16,7 +16,7 @@ pub trait Speaker: Drop + Sized {
     /// The frame of one more cast.
     fn cast(&mut self, payload: &[u8]) -> Result<Option<Bytes>, NoMemory>;
 
-    /// The frame of so many casts more.
+    /// The frame of that many casts more.
     fn cast_burst(&mut self, payloads: &[&[u8]]) -> Result<Option<Bytes>, NoMemory>;
 
     /// Takes a received frame, and tallies what it delivers: what is sent.
