@@ -107,9 +107,11 @@ impl Both {
             self.member.cast_noted(payload),
         ) {
             (Ok((frame, noted)), Ok((done, entry))) => {
-                noted == entry
-                    && frame == done.out
-                    && are_the_cast(&self.events[before..], &done, payload)
+                let is_event = match self.events.get(before..) {
+                    Some(added) => are_the_cast(added, &done, payload),
+                    None => false,
+                };
+                noted == entry && frame == done.out && is_event
             }
             (Err(one), Err(other)) => one == other && self.events.len() == before,
             _ => false,

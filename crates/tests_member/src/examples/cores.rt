@@ -122,7 +122,8 @@ impl Noting {
     fn cast(&mut self, payload: &[u8]) -> Result<Result<CastDone, CastRefusal>, Fail> {
         let before = self.events.len();
         let cast = self.core.cast(payload, &mut self.events);
-        let (told, entry) = told_of_cast(cast, &self.events[before..])?;
+        let added = self.events.get(before..).ok_or("the events so far")?;
+        let (told, entry) = told_of_cast(cast, added)?;
         self.keep_entry(entry)?;
         Ok(told)
     }
@@ -130,7 +131,8 @@ impl Noting {
     fn cast_burst(&mut self, payloads: &[&[u8]]) -> Result<Result<BurstDone, BurstRefusal>, Fail> {
         let before = self.events.len();
         let burst = self.core.cast_burst(payloads, &mut self.events);
-        let (told, entry) = told_of_burst(burst, &self.events[before..])?;
+        let added = self.events.get(before..).ok_or("the events so far")?;
+        let (told, entry) = told_of_burst(burst, added)?;
         self.keep_entry(entry)?;
         Ok(told)
     }
@@ -225,9 +227,12 @@ fn told_of_burst(
         Err(refusal) => return Ok((Err(refusal), None)),
     };
     let first = events.first().ok_or("an event")?.message();
+    let Ok(count) = u32::try_from(events.len()) else {
+        return Err(Fail::new("as many events as a burst has messages"));
+    };
     let told = BurstDone {
         first: first.name,
-        count: events.len() as u32,
+        count,
         time: first.time.copy()?,
         out,
     };
