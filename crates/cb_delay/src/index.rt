@@ -301,9 +301,9 @@ fn walk_over(set: u64, places: &[Place], member: u32, count: u32) -> Walk
     let mut waiting = 0;
     while let Some(i) = members::first(left) {
         left = members::without(left, i);
-        let place = places[i as usize];
-        reached = members::with_if(reached, i, place.is_reached(member, count));
-        waiting = members::with_if(waiting, i, place.still_waits(member, count));
+        let standing = places[i as usize].standing_at(member, count);
+        reached = members::with_if(reached, i, standing.is_reached);
+        waiting = members::with_if(waiting, i, standing.still_waits);
     }
     Walk { reached, waiting }
 }

@@ -7,6 +7,6 @@ use Rattle.cb_delay.proofs.lists.holds_some.Goals as goal
 pub returns : goal.returns
 returns c none =
     let is : c.is_empty.result ≡ true = not-false c.is_empty.result none in
-    let zero : deque_len c.index.result.now ≡ 0 = eqb-true (deque_len c.index.result.now) 0 (sym c.is_empty.ensures ∙ is) in
-    list_of-deques c.args.lists.now c.args.sender c.index.result.now c.requires c.index.ensures
-    ∙ nil_of_length c.index.result.now.items (omega (arith, zero, c.index.result.now.ok.0))
+    let zero : deque_len c.index-lists-sender.result ≡ 0 = eqb-true (deque_len c.index-lists-sender.result) 0 (sym c.is_empty.ensures ∙ is) in
+    list_of-deques c.args.lists.now c.args.sender c.index-lists-sender.result c.requires c.index-lists-sender.is
+    ∙ nil_of_length c.index-lists-sender.result.items (omega (arith, zero, c.index-lists-sender.result.ok.0))

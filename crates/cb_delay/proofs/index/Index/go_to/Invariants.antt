@@ -1,4 +1,4 @@
-use Rattle.std.proofs.Common.{◌≡◌, ◌≢◌, ◌×◌, ◌<◌, ◌≤◌, ◌-◌, ℕ, length, map}
+use Rattle.std.proofs.Common.{◌≡◌, ◌<◌, ◌≤◌, ◌-◌, ℕ, length, map}
 use Rattle.cb_times.specs.Order.{field}
 use Rattle.cb_delay.specs.Index.{HasShape, Tells}
 use Rattle.cb_delay.proofs.index.Index.go_to.Given as goal
