@@ -113,7 +113,7 @@ impl Index {
             && walk_over(self.waiting[member as usize], &self.places, member, count).reached == 0
     }
 
-    /// Makes its time that at which one message more of this member is delivered, of whom some are held or none.
+    /// Makes its time that at which one message more of this member is delivered. `holds_some` says whether any is held of it.
     pub fn go_one_further(&mut self, member: u32, holds_some: bool)
         requires member { member < length self.old.last }
         requires shape { HasShape (length self.old.last) self.old }
@@ -162,7 +162,7 @@ impl Index {
         self.shrink(k, count);
     }
 
-    /// More of member k is delivered: who waited for that may be ready, and where some are held of k, its candidate is another.
+    /// More of member k is delivered: who waited for that may be ready, and where any is held of k, its candidate is another.
     fn grow(&mut self, k: u32, count: u32, holds_some: bool)
         requires member { k < length self.old.last }
         requires shape { HasShape (length self.old.last) self.old }

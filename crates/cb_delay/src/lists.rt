@@ -8,7 +8,7 @@ use cb_times::NoMemory;
 use std::alloc::Global;
 use std::collections::VecDeque;
 
-/// Whether some message is held of this sender.
+/// Whether any message is held of this sender.
 pub fn holds_some(lists: &[VecDeque<Message>], sender: u32) -> bool
     requires { sender < length lists.now }
     ensures { result ≡ false → list_of (map (λ list. list.items) lists.now) sender ≡ [] }

@@ -26,7 +26,7 @@ pub enum Place {
 }
 
 impl Place {
-    /// How the candidate stands to this member, of whom so many messages are delivered.
+    /// How the candidate stands to this member once `count` of its messages are delivered.
     pub fn standing_at(&self, member: u32, count: u32) -> Standing
         ensures reached { result.is_reached ≡ false
             → (value : ℕ) → self.now ≡ Waits member value → count < value }

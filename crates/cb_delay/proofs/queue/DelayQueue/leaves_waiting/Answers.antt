@@ -1,11 +1,9 @@
-use Rattle.std.proofs.Common.{◌≡◌, ◌+◌, ◌<◌, ℕ, [], length, arith, subst, sym, ap, ◌∙◌}
-use Rattle.std.specs.VecDeque.{deque_len}
-use Rattle.std.proofs.lemmas.Bool.{eqb-true}
+use Rattle.std.proofs.Common.{◌≡◌, ◌+◌, ℕ, [], length, arith, subst, ap}
 use Rattle.cb_times.specs.Order.{field}
 use Rattle.cb_delay.specs.Lists.{list_of}
 use Rattle.cb_delay.specs.Index.{HasShape, settled_at}
 use Rattle.cb_delay.proofs.Kept.{is_delay_queue}
-use Rattle.cb_delay.proofs.Deques.{lists_of, length-lists_of, list_of-deques, nil_of_length, queue_seen}
+use Rattle.cb_delay.proofs.Deques.{lists_of, queue_seen}
 use Rattle.cb_delay.proofs.Answering.{none_ready, none_ready_with}
 use Rattle.cb_delay.proofs.queue.DelayQueue.leaves_waiting.Goals as goal
 
