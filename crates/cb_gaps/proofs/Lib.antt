@@ -1,6 +1,8 @@
 pub mod Spans
 pub mod Entries
+pub mod Standing
 pub mod Kept
+pub mod Held
 pub mod Gaps
 pub mod OneList
 pub mod Rows

@@ -3,13 +3,15 @@ use Rattle.std.proofs.Common.{◌≡◌, ℕ, ◌+◌, ◌<◌, ◌^◌, List, [
 use Rattle.std.specs.Ordering.{nat_cmp, eq_by_cmp}
 use Rattle.std.specs.Cmp.{nat_cmp_total}
 use Rattle.std.specs.FinMap as fin
-use Rattle.std.proofs.lemmas.List.Elements.{All-nil}
 use Rattle.cb_frames.specs.declared.frame.Unit.{Unit as Carrying}
 use Rattle.cb_frames.specs.Fields.{CastFields, first_number, last_number}
 use Rattle.cb_times.proofs.Entries.{equal_numbers, numbers_equal}
 use Rattle.cb_gaps.specs.Buffer.{Buffer, IsNext, IsInOrder, Takes}
-use Rattle.cb_gaps.specs.Lists.{last_of, AreKept, buffer_of}
+use Rattle.cb_gaps.specs.declared.slots.Slot.{Slot}
+use Rattle.cb_gaps.specs.Lists.{AreKept, buffer_of}
+use Rattle.cb_gaps.specs.Slots.{AreSlots, units_of}
 use Rattle.cb_gaps.proofs.Kept.{len-kept, new_gives}
+use Rattle.cb_gaps.proofs.Held.{buffer_in, are_kept, none_slots, no_units}
 
 -- ---- none is kept
 
@@ -20,9 +22,15 @@ none_kept window taken (c ∷ units) none = absurd (omega (arith, none))
 pub some_kept : (window taken : ℕ) (units : List Carrying) → AreKept window taken units → (buffer_of window taken units).kept ≡ fin.empty → length units ≡ 0
 some_kept window taken units are none = sym (len-kept window taken units are.rise) ∙ ap (λ (m : fin.FinMap nat_cmp CastFields). fin.len m) none ∙ fin.len-empty nat_cmp CastFields
 
-pub passed_keeps : (window taken last : ℕ) (units : List Carrying) → AreKept window taken units → (buffer_of window taken units).kept ≡ fin.empty → AreKept window last units
-passed_keeps window taken last [] are none = record { width = are.width; rise = tt; near = All-nil (λ c. last_of c < last + window + 1); in_range = All-nil (λ c. last_of c < 2 ^ 32) }
-passed_keeps window taken last (c ∷ units) are none = absurd (let some = some_kept window taken (c ∷ units) are none in omega (arith, some))
+pub passed_keeps : (window taken last : ℕ) (slots : List Slot) → AreSlots window taken slots → last < 2 ^ 32
+    → (buffer_in window taken slots).kept ≡ fin.empty → AreSlots window last slots
+passed_keeps window taken last slots are below none =
+    let empty = no_units window taken slots are (some_kept window taken (units_of slots) (are_kept window taken slots are) none) in
+    no_slots slots empty
+  where
+    no_slots : (l : List Slot) → length l ≡ 0 → AreSlots window last l
+    no_slots [] empty = none_slots window last are.width below
+    no_slots (slot ∷ l) empty = absurd (omega (arith, empty))
 
 -- ---- put in and taken out again
 

@@ -6,8 +6,9 @@ use Rattle.std.proofs.lemmas.Bool.{cases_lt}
 use Rattle.cb_frames.specs.Fields.{One, Many, CastFields, first_number, last_number}
 use Rattle.cb_gaps.specs.declared.buffer.Admission.{Admission}
 use Rattle.cb_gaps.specs.declared.buffer.Admission.TheVariants.{Kept, Repeat, Overlap, TooFar}
-use Rattle.std.specs.declared.cmp.Ordering.TheVariants.{Less, Equal, Greater}
-use Rattle.cb_gaps.specs.Lists.{side_of}
+use Rattle.cb_frames.specs.declared.frame.Unit.{Unit as Carrying}
+use Rattle.cb_gaps.specs.declared.slots.Slot.TheVariants.{Lacking, First, Later}
+use Rattle.cb_gaps.specs.Slots.{held_at, put, units_of}
 use Rattle.cb_gaps.specs.Ranges.{end_with}
 use Rattle.cb_gaps.specs.Buffer.{Buffer, Covers, IsKept, IsReceived, IsKeptWith, IsLacking, Admits, ComeOut, WouldComeOut}
 
@@ -117,27 +118,6 @@ ends_at_six : last_number four_to_six ≡ 6
 unfolding last_number
 ends_at_six = refl
 
--- it lies behind 1 to 3 and before 7 to 9, and has a number of 1 to 4, of 5 alone, and of 6 to 9
-behind_three : side_of four_to_six 1 3 ≡ Greater
-unfolding first_number
-behind_three = refl
-
-has_four : side_of four_to_six 1 4 ≡ Equal
-unfolding first_number
-has_four = refl
-
-has_five : side_of four_to_six 5 5 ≡ Equal
-unfolding first_number
-has_five = refl
-
-has_six : side_of four_to_six 6 9 ≡ Equal
-unfolding first_number
-has_six = refl
-
-before_seven : side_of four_to_six 7 9 ≡ Less
-unfolding first_number
-before_seven = refl
-
 -- a row that ends with 3 goes on with it; where one ends with 2 it doesn't, and neither where one ends with 6
 goes_on_to_six : end_with 3 4 6 ≡ 6
 goes_on_to_six = refl
@@ -188,3 +168,27 @@ six_would_not = record {
     | inr six ↦ omega (arith, six.0)
   ];
 }
+
+-- ---- slots
+
+module _ (u v : Carrying) where
+  -- a unit of two numbers behind a gap of two, behind all that is there
+  put_behind_a_gap : put 2 (First u ∷ Later ∷ []) [] ≡ Lacking ∷ Lacking ∷ First u ∷ Later ∷ []
+  put_behind_a_gap = refl
+
+  -- in the gap in front of another, which stays
+  put_in_the_gap : put 0 (First v ∷ Later ∷ []) (Lacking ∷ Lacking ∷ First u ∷ Later ∷ []) ≡ First v ∷ Later ∷ First u ∷ Later ∷ []
+  put_in_the_gap = refl
+
+  both_in_order : units_of (First v ∷ Later ∷ Lacking ∷ First u ∷ Later ∷ []) ≡ v ∷ u ∷ []
+  both_in_order = refl
+
+  -- a unit holds the slots of all its numbers, and no slot behind the last one is held
+  later_is_held : held_at (First v ∷ Later ∷ Lacking ∷ First u ∷ []) 1 ≡ true
+  later_is_held = refl
+
+  gap_is_not : held_at (First v ∷ Later ∷ Lacking ∷ First u ∷ []) 2 ≡ false
+  gap_is_not = refl
+
+  none_behind : held_at (First v ∷ Later ∷ Lacking ∷ First u ∷ []) 4 ≡ false
+  none_behind = refl

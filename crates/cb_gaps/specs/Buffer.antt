@@ -71,6 +71,13 @@ Admits buffer delivered first last Repeat = AreReceived buffer first last
 Admits buffer delivered first last Overlap = ArePartlyReceived buffer first last
 Admits buffer delivered first last TooFar = AreLacking buffer first last × (delivered + buffer.window < last)
 
+-- the answer where some of the messages with the numbers first to last were received
+abbrev pub IsReceivedAnswer : Buffer → ℕ → ℕ → Admission → Type 0
+IsReceivedAnswer buffer first last Repeat = AreReceived buffer first last
+IsReceivedAnswer buffer first last Overlap = ArePartlyReceived buffer first last
+IsReceivedAnswer buffer first last Kept = ⊥
+IsReceivedAnswer buffer first last TooFar = ⊥
+
 -- the answer for a cast
 abbrev pub IsAnswer : Buffer → ℕ → CastFields → Admission → Type 0
 IsAnswer buffer delivered c answer = Admits buffer delivered (first_number c) (last_number c) answer

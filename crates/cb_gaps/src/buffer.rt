@@ -1,15 +1,13 @@
 //! The reorder buffer: what was received of one sender before what goes in front of it.
-ghost use Rattle.std.specs.Prelude.{◌≡◌, ◌+◌, ◌^◌, ◌<◌, ◌≤◌, ◌++◌, None, MatchOption, IfOk, IfErr, IfSome, IfNone, IsTrue, ◌↔◌, OnOk, insert, map};
+ghost use Rattle.std.specs.Prelude.{◌≡◌, ◌+◌, ◌^◌, ◌<◌, ◌≤◌, None, MatchOption, IfOk, IfSome, IfNone, IsTrue, ◌↔◌};
 ghost use Rattle.std.specs.FinMap as fin;
-ghost use Rattle.std.specs.VecDeque.{deque_len, deque_capacity};
 ghost use Rattle.cb_frames.specs.Fields.{unit_fields};
 ghost use Rattle.cb_times.specs.Group.{IsWindow};
 ghost use Rattle.cb_frames.specs.Carrying.{IsNumbered};
-ghost use Rattle.cb_gaps.specs.Buffer.{IsNew, Admits, IsAnswer, IsAfter, IsNext, IsInOrder, IsFirstKept, Takes, IsMissing, IsReorderBuffer, WouldComeOut};
-ghost use Rattle.cb_gaps.specs.Ranges.{AreRangesOf, HasOne, IsRow, end_with, gap_between};
-ghost use Rattle.cb_gaps.specs.Lists.{Rise, Below, HasNumber, IsReceivedAnswer, IsRowAnswer, IsGap, IsFreePlace, IsPlaceFor};
+ghost use Rattle.cb_gaps.specs.Buffer.{IsNew, Admits, IsAnswer, IsAfter, IsNext, IsInOrder, IsFirstKept, Takes, IsMissing, IsReorderBuffer, WouldComeOut, IsKept, IsReceived, AreLacking, IsReceivedAnswer};
+ghost use Rattle.cb_gaps.specs.Ranges.{AreRangesOf, IsRow, end_with};
 
-use crate::units::side;
+use crate::slots::{Slot, alike_until, copies, count_units, gaps, is_held, put_unit, take_unit};
 use cb_frames::{Range, Unit};
 use cb_times::NoMemory;
 use std::alloc::Global;
@@ -50,8 +48,9 @@ pub struct Reorder {
     window: u32,
     /// How many messages were taken, which is the number of the last one.
     taken: u32,
-    /// By rising numbers, all above `taken`; none overlaps another, and there is room for `window` of them.
-    kept: VecDeque<Unit>,
+    /// What is kept of each number from the one behind `taken` on, up to the last that is kept: a number's slot is found without a
+    /// search, and no other moves. There is room for `window` of them.
+    slots: VecDeque<Slot>,
 }
 
 impl Model for Reorder {
@@ -59,16 +58,18 @@ impl Model for Reorder {
     ghost use Rattle.std.specs.VecDeque.{deque_capacity};
     ghost use Rattle.cb_times.specs.Group.{IsWindow};
     ghost use Rattle.cb_gaps.specs.Buffer.{Buffer, buffer_code};
-    ghost use Rattle.cb_gaps.specs.Lists.{AreKept, buffer_of};
+    ghost use Rattle.cb_gaps.specs.Lists.{buffer_of};
+    ghost use Rattle.cb_gaps.specs.Slots.{AreSlots, units_of};
 
     ghost Value = { Buffer };
 
     ghost coded = { buffer_code };
 
-    ghost view = { λ reorder. buffer_of reorder.window reorder.taken reorder.kept.items };
+    ghost view = { λ reorder.
+        buffer_of reorder.window reorder.taken (units_of reorder.slots.items) };
 
-    ghost invariant = { λ reorder. AreKept reorder.window reorder.taken reorder.kept.items
-        × (reorder.window ≤ deque_capacity reorder.kept) };
+    ghost invariant = { λ reorder. AreSlots reorder.window reorder.taken reorder.slots.items
+        × (reorder.window ≤ deque_capacity reorder.slots) };
 }
 
 impl Reorder {
@@ -77,11 +78,11 @@ impl Reorder {
         requires { IsWindow window }
         ensures { IfOk result (IsNew window) }
     {
-        let kept = VecDeque::with_capacity(alloc, window as usize)?;
+        let slots = VecDeque::with_capacity(alloc, window as usize)?;
         Ok(Reorder {
             window,
             taken: 0,
-            kept,
+            slots,
         })
     }
 
@@ -91,11 +92,11 @@ impl Reorder {
     pub fn copy(&self) -> Result<Reorder, NoMemory>
         ensures { IfOk result (λ copy. copy ≡ self.now) }
     {
-        let kept = copies(&self.kept, self.window as usize)?;
+        let slots = copies(&self.slots, self.window as usize)?;
         Ok(Reorder {
             window: self.window,
             taken: self.taken,
-            kept,
+            slots,
         })
     }
 
@@ -111,7 +112,7 @@ impl Reorder {
     pub fn len(&self) -> usize
         ensures { result ≡ fin.len self.now.kept }
     {
-        self.kept.len()
+        count_units(&self.slots)
     }
 
     /// The smallest number that is kept, where one is: the first message behind the gap.
@@ -119,22 +120,24 @@ impl Reorder {
         ensures first { IfSome result (IsFirstKept self.now) }
         ensures none { IfNone result (self.now.kept ≡ fin.empty) }
     {
-        Some(self.kept.front()?.first())
+        if self.slots.is_empty() {
+            return None;
+        }
+        let lacking = alike_until(&self.slots, false, 0, self.slots.len());
+        Some(self.taken + 1 + lacking as u32)
     }
 
     /// What `keep` would answer to a unit with the numbers `first` to `last` where so many of the sender's messages are delivered.
     pub fn judge(&self, delivered: u32, first: u32, last: u32) -> Admission
         ensures { Admits self.now delivered first last result }
     {
-        match place_among(&self.kept, self.taken, first, last) {
-            Err(received) => received,
-            Ok(_place) => {
-                if last.saturating_sub(delivered) > self.window {
-                    return Admission::TooFar;
-                }
-                Admission::Kept
-            }
+        if let Some(received) = self.received(first, last) {
+            return received;
         }
+        if last.saturating_sub(delivered) > self.window {
+            return Admission::TooFar;
+        }
+        Admission::Kept
     }
 
     /// How many messages `take_next` would give one after the other, were a unit with the numbers `first` to `last` kept as well. So a
@@ -146,8 +149,8 @@ impl Reorder {
         ensures row { WouldComeOut self.now first last result }
         ensures greatest { self.now.taken + result < 2 ^ 32 }
     {
-        let end = end_of_row(&self.kept, self.taken);
-        let end = end_of_row(&self.kept, with_numbers(end, first, last));
+        let end = self.end_of_row(self.taken);
+        let end = self.end_of_row(with_numbers(end, first, last));
         end - self.taken
     }
 
@@ -164,14 +167,14 @@ impl Reorder {
         ensures after { IsAfter self.old (unit_fields unit) result self.new }
     {
         let last = unit.last();
-        let place = match place_among(&self.kept, self.taken, unit.first(), last) {
-            Err(received) => return received,
-            Ok(place) => place,
-        };
+        if let Some(received) = self.received(unit.first(), last) {
+            return received;
+        }
         if last > delivered.saturating_add(self.window) {
             return Admission::TooFar;
         }
-        put(&mut self.kept, place, unit);
+        let place = (unit.first() - self.taken - 1) as usize;
+        put_unit(&mut self.slots, place, unit);
         Admission::Kept
     }
 
@@ -180,7 +183,7 @@ impl Reorder {
     pub fn is_in_order(&self, first: u32) -> bool
         ensures { IsTrue result ↔ IsInOrder self.now first }
     {
-        self.kept.is_empty() && follows(first, self.taken)
+        self.slots.is_empty() && follows(first, self.taken)
     }
 
     /// Counts as taken the next messages up to this number, which the caller has in hand: as if a unit that ends there were kept and
@@ -201,120 +204,63 @@ impl Reorder {
         ensures none { IfNone result (fin.get self.old.kept (self.old.taken + 1) ≡ None) }
         ensures same { IfNone result (self.new ≡ self.old) }
     {
-        let next = self.taken.checked_add(1)?;
-        let front = self.kept.front()?;
-        if front.first() != next {
-            return None;
-        }
-        self.taken = front.last();
-        self.kept.pop_front()
+        let unit = take_unit(&mut self.slots)?;
+        self.taken = unit.last();
+        Some(unit)
     }
 
     /// The numbers that are neither taken nor kept, up to `known`, the greatest number of the sender that was heard of, and
     /// to the window above `delivered`.
     ///
     /// They come as ranges in rising order that neither touch nor overlap; none is missing where the list is empty. The work
-    /// grows with the units that are kept, and not with how many numbers are missing. Any two numbers will do.
+    /// grows with how far above `taken` units are kept, at most the window. Any two numbers will do.
     pub fn missing(&self, delivered: u32, known: u32) -> Result<Vec<Range>, NoMemory>
         ensures { IfOk result (λ ranges.
             AreRangesOf (IsMissing self.now delivered known) ranges.items) }
     {
         let last = known.min(delivered.saturating_add(self.window));
-        gaps(*self.kept.allocator(), &self.kept, self.taken, last)
+        gaps(*self.slots.allocator(), &self.slots, self.taken, last)
     }
-}
 
-// copies of these units, in places for so many
-fn copies(units: &VecDeque<Unit>, places: usize) -> Result<VecDeque<Unit>, NoMemory>
-    ensures units { IfOk result (λ copies.
-        map unit_fields copies.items ≡ map unit_fields units.now.items) }
-    ensures places { IfOk result (λ copies. places ≤ deque_capacity copies) }
-{
-    let mut copies = VecDeque::with_capacity(*units.allocator(), places)?;
-    for unit in units {
-        copies.push_back(unit.copy()?)?;
+    // whether these numbers were received, all or some; `None` where none was
+    fn received(&self, first: u32, last: u32) -> Option<Admission>
+        ensures { MatchOption result (AreLacking self.now first last)
+            (IsReceivedAnswer self.now first last) }
+    {
+        let received = self.is_received(first);
+        let from = first.saturating_sub(self.taken) as usize;
+        let behind = last.saturating_sub(self.taken) as usize;
+        // all numbers behind the last slot are alike
+        let end = behind.min(self.slots.len() + 1);
+        if alike_until(&self.slots, received, from, end) < end {
+            return Some(Admission::Overlap);
+        }
+        if received {
+            return Some(Admission::Repeat);
+        }
+        None
     }
-    Ok(copies)
+
+    fn is_received(&self, number: u32) -> bool
+        ensures { IsTrue result ↔ IsReceived self.now number }
+    {
+        number <= self.taken || is_held(&self.slots, (number - self.taken - 1) as usize)
+    }
+
+    // where the row of kept numbers behind this one ends
+    fn end_of_row(&self, behind: u32) -> u32
+        requires { self.now.taken ≤ behind }
+        ensures { IsRow (IsKept self.now) behind result }
+    {
+        let from = (behind - self.taken) as usize;
+        self.taken + alike_until(&self.slots, true, from, self.slots.len()) as u32
+    }
 }
 
 fn follows(number: u32, taken: u32) -> bool
     ensures { IsTrue result ↔ (number ≡ taken + 1) }
 {
     taken.checked_add(1) == Some(number)
-}
-
-// where a unit with these numbers is to stand, or the answer where some of them were received
-fn place_among(kept: &VecDeque<Unit>, taken: u32, first: u32, last: u32) -> Result<usize, Admission>
-    requires rise { Rise taken kept.now.items }
-    requires in_range { Below (2 ^ 32) kept.now.items }
-    ensures place { IfOk result (IsFreePlace taken kept.now.items first last) }
-    ensures received { IfErr result (IsReceivedAnswer taken kept.now.items first last) }
-{
-    if last <= taken {
-        return Err(Admission::Repeat);
-    }
-    if first <= taken {
-        return Err(answer_behind(kept, taken, last));
-    }
-    match place_for(kept, first, last) {
-        Some(place) => Ok(place),
-        None => {
-            // of one number there is no need to look further
-            if first == last {
-                return Err(Admission::Repeat);
-            }
-            Err(answer_behind(kept, first - 1, last))
-        }
-    }
-}
-
-// where a unit with these numbers is to stand, unless one that has some of them stands there
-fn place_for(kept: &VecDeque<Unit>, first: u32, last: u32) -> Option<usize>
-    requires { Rise 0 kept.now.items }
-    ensures { MatchOption result (first ≤ last → HasOne (HasNumber kept.now.items) first last)
-        (IsPlaceFor first last kept.now.items) }
-{
-    kept.binary_search_by(move |unit| side(unit, first, last))
-        .err()
-}
-
-// whether all numbers behind this one, up to the last, are kept
-fn answer_behind(kept: &VecDeque<Unit>, behind: u32, last: u32) -> Admission
-    requires rise { Rise 0 kept.now.items }
-    requires in_range { Below (2 ^ 32) kept.now.items }
-    ensures { IsRowAnswer kept.now.items behind last result }
-{
-    if end_of_row(kept, behind) < last {
-        return Admission::Overlap;
-    }
-    Admission::Repeat
-}
-
-fn put(kept: &mut VecDeque<Unit>, place: usize, unit: Unit)
-    requires place { place ≤ deque_len kept.old }
-    requires room { deque_len kept.old < deque_capacity kept.old }
-    ensures items { kept.new.items ≡ insert kept.old.items place unit }
-    ensures capacity { deque_capacity kept.old ≤ deque_capacity kept.new }
-{
-    let Ok(()) = kept.insert(place, unit) else {
-        unreachable!("there is room")
-    };
-}
-
-// where the row of kept numbers behind this one ends
-fn end_of_row(kept: &VecDeque<Unit>, behind: u32) -> u32
-    requires rise { Rise 0 kept.now.items }
-    requires in_range { Below (2 ^ 32) kept.now.items }
-    ensures { IsRow (HasNumber kept.now.items) behind result }
-{
-    let mut end = behind;
-    for unit in kept {
-        if end < unit.first() - 1 {
-            return end;
-        }
-        end = end.max(unit.last());
-    }
-    end
 }
 
 // the end of a row where these numbers may go on with it
@@ -326,34 +272,6 @@ fn with_numbers(end: u32, first: u32, last: u32) -> u32
     } else {
         end
     }
-}
-
-// the numbers above `taken`, up to `last`, that are not kept
-fn gaps(alloc: Global, kept: &VecDeque<Unit>, taken: u32, last: u32) -> Result<Vec<Range>, NoMemory>
-    requires rise { Rise taken kept.now.items }
-    requires in_range { Below (2 ^ 32) kept.now.items }
-    ensures { IfOk result (λ ranges. AreRangesOf (IsGap taken last kept.now.items) ranges.items) }
-{
-    let mut ranges = Vec::new(alloc);
-    let mut before = taken;
-    for unit in kept {
-        push_gap(&mut ranges, before, last.min(unit.first() - 1))?;
-        before = unit.last();
-    }
-    push_gap(&mut ranges, before, last)?;
-    Ok(ranges)
-}
-
-fn push_gap(ranges: &mut Vec<Range>, before: u32, last: u32) -> Result<(), NoMemory>
-    ensures { OnOk result (ranges.new.items ≡ ranges.old.items ++ gap_between before last) }
-{
-    if before < last {
-        ranges.push(Range {
-            first: before + 1,
-            last,
-        })?;
-    }
-    Ok(())
 }
 
 #[cfg(test)]

@@ -8,7 +8,7 @@
 mod buffer;
 mod laws;
 mod request;
-mod units;
+mod slots;
 
 pub use buffer::{Admission, Reorder};
 pub use laws::{casts_come_out_as_reported, one_message_never_overlaps, ranges_are_one_list};

@@ -80,11 +80,11 @@ fn keep_burst(reorder: &mut Reorder, delivered: u32, burst: Burst) -> Option<Adm
 fn after(rt: &impl Abort, alloc: Global, window: u32, taken: u32) -> Reorder
     requires { IsWindow window }
 {
-    let kept = VecDeque::with_capacity(alloc, window as usize).expect(rt, "memory");
+    let slots = VecDeque::with_capacity(alloc, window as usize).expect(rt, "memory");
     Reorder {
         window,
         taken,
-        kept,
+        slots,
     }
 }
 

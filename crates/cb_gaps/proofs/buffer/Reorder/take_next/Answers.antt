@@ -1,55 +1,33 @@
-use Rattle.std.proofs.Common.{◌≡◌, ◌+◌, ◌^◌, ◌≤◌, length, arith, refl, inl, inr, sym, ◌∙◌}
-use Rattle.std.proofs.lemmas.Bool.{cases_lt}
-use Rattle.cb_gaps.proofs.Kept.{none_beyond, next-empty, next-later, front_is_numbered, pop_keeps, pop_next, pop_taken}
+use Rattle.std.proofs.Common.{arith}
+use Rattle.cb_gaps.proofs.Held.{none_begins, taken_is_numbered, take_keeps, take_next, take_takes}
 use Rattle.cb_gaps.proofs.buffer.Reorder.take_next.Goals as goal
 
-pub returns-in_err-next-clause-none : goal.returns-in_err-next-clause-none
-returns-in_err-next-clause-none c =
-    let beyond : 2 ^ 32 ≤ c.self.inside.taken + 1 = omega (arith, c.in_err-next.ensures) in
-    rw (c.from_residual.ensures, ← c.self.view_is)
-    (none_beyond c.self.inside.window c.self.inside.taken c.self.inside.kept.items c.self.invariant.0 (c.self.inside.taken + 1) beyond)
-
-pub returns-in_err-front-clause-none : goal.returns-in_err-front-clause-none
-returns-in_err-front-clause-none c =
-    let empty : length c.self.inside.kept.items ≡ 0 =
-    elim (cases_lt 0 (length c.self.inside.kept.items)) as (λ _. length c.self.inside.kept.items ≡ 0) [
-      | inl some ↦ let wrong = c.in_err-front.ensures.variant.1 (omega (arith, some, c.self.inside.kept.ok.0)) in cc
-      | inr none ↦ omega (arith, none)
-    ] in
-    rw (c.from_residual-in_err-front.ensures, ← c.self.view_is)
-    (next-empty c.self.inside.window c.self.inside.taken c.self.inside.kept.items c.self.invariant.0 empty)
-
-pub returns-then-first-next-clause-none : goal.returns-then-first-next-clause-none
-returns-then-first-next-clause-none c =
-    rw (← c.self.view_is)
-    (next-later c.self.inside.window c.self.inside.taken c.self.inside.kept.items c.in_ok-front.front.now c.self.invariant.0
-    (omega (arith, c.in_ok-front.ensures.variant.0 refl, c.self.inside.kept.ok.0)) c.in_ok-front.ensures.lookup
-    (λ e. c.if-first-next.true (c.first.ensures ∙ e ∙ sym c.in_ok-next.ensures.1)))
+pub returns-in_err-unit-clause-none : goal.returns-in_err-unit-clause-none
+returns-in_err-unit-clause-none c =
+    let s = c.self.inside in
+    rw (c.from_residual.ensures, ← c.self.view_is) (none_begins s.window s.taken s.slots.items c.self.invariant.0 c.in_err-unit.ensures.none.0)
 
 pub last-self-inside-requires : goal.last-self-inside-requires
 last-self-inside-requires c =
-    front_is_numbered c.self.inside.window c.self.inside.taken c.self.inside.kept.items c.in_ok-front.front.now c.self.invariant.0
-    (omega (arith, c.in_ok-front.ensures.variant.0 refl, c.self.inside.kept.ok.0)) c.in_ok-front.ensures.lookup
+    let s = c.self.inside in
+    taken_is_numbered s.window s.taken s.slots.items c.take_unit.new.slots.items c.self.invariant.0 c.in_ok-unit.unit c.in_ok-unit.ensures.unit
 
-pub invariant_of-self : goal.invariant_of-self
-invariant_of-self c =
+pub invariant_of-self-2 : goal.invariant_of-self-2
+invariant_of-self-2 c =
+    let s = c.self.inside in
     rw c.last-self-inside.ensures (
-      pop_keeps c.self.inside.window c.self.inside.taken c.self.inside.kept.items c.pop_front.new.self.items c.in_ok-front.front.now
-          c.self.invariant.0 c.in_ok-front.ensures.lookup (sym c.first.ensures ∙ c.if-first-next.false ∙ c.in_ok-next.ensures.1)
-          c.pop_front.result (c.pop_front.ensures.variant.1 (c.in_ok-front.ensures.variant.0 refl)) c.pop_front.ensures.items,
-      omega (arith, c.pop_front.ensures.capacity, c.self.invariant.1),
+      take_keeps s.window s.taken s.slots.items c.take_unit.new.slots.items c.self.invariant.0 c.in_ok-unit.unit c.in_ok-unit.ensures.unit,
+      omega (arith, c.take_unit.ensures.capacity, c.self.invariant.1),
     )
 
 pub returns-clause-next : goal.returns-clause-next
 returns-clause-next c =
+    let s = c.self.inside in
     rw (← c.self.view_is)
-    (pop_next c.self.inside.window c.self.inside.taken c.self.inside.kept.items c.pop_front.new.self.items c.in_ok-front.front.now
-    c.self.invariant.0 c.in_ok-front.ensures.lookup (sym c.first.ensures ∙ c.if-first-next.false ∙ c.in_ok-next.ensures.1)
-    c.pop_front.result c.pop_front.ensures.items)
+    (take_next s.window s.taken s.slots.items c.take_unit.new.slots.items c.self.invariant.0 c.in_ok-unit.unit c.in_ok-unit.ensures.unit)
 
 pub returns-clause-taken : goal.returns-clause-taken
 returns-clause-taken c =
+    let s = c.self.inside in
     rw (← c.self.view_is, c.last-self-inside.ensures)
-    (pop_taken c.self.inside.window c.self.inside.taken c.self.inside.kept.items c.pop_front.new.self.items c.in_ok-front.front.now
-    c.self.invariant.0 c.in_ok-front.ensures.lookup (sym c.first.ensures ∙ c.if-first-next.false ∙ c.in_ok-next.ensures.1)
-    c.pop_front.result c.pop_front.ensures.items)
+    (take_takes s.window s.taken s.slots.items c.take_unit.new.slots.items c.self.invariant.0 c.in_ok-unit.unit c.in_ok-unit.ensures.unit)
