@@ -14,11 +14,11 @@ proved=${PROVED:-$here/../crates/bench_member/out/bench_member}
 library=${LIBRARY:-$here/../bindings/out}
 [ -x "$proved" ] || (cd "$here/../crates/bench_member" && rt run -- 3 4 2 12 0 0 > /dev/null)
 [ -e "$library/libjolunza.a" ] || "$here/../bindings/build.sh" > /dev/null
-rustc -O -o "$work/plain" "$here/plain_member.rs"
+rustc --edition 2021 -O -C target-cpu=x86-64-v2 -o "$work/plain" "$here/plain_member.rs"
 gcc -std=c11 -O2 -o "$work/c" "$here/bindings.c" "$library/libjolunza.a"
-rustc --edition 2021 -O --crate-name jolunza --crate-type rlib -L native="$library" -l static=jolunza \
+rustc --edition 2021 -O -C target-cpu=x86-64-v2 --crate-name jolunza --crate-type rlib -L native="$library" -l static=jolunza \
     -o "$work/libjolunza.rlib" "$here/../bindings/rust/src/lib.rs"
-rustc --edition 2021 -O --extern jolunza="$work/libjolunza.rlib" -o "$work/rust" "$here/bindings.rs"
+rustc --edition 2021 -O -C target-cpu=x86-64-v2 --extern jolunza="$work/libjolunza.rlib" -o "$work/rust" "$here/bindings.rs"
 python3 - "$work" "$proved" <<'END'
 import concurrent.futures, re, subprocess, sys
 

@@ -2,7 +2,7 @@
 # Counts the instructions (callgrind) of deliveries at a member of a group of 64 while messages wait: of the proved member
 # (`crates/bench_held`), and of a queue in plain Rust that looks at all that it holds. What is told is the difference between 200
 # deliveries and 100, for one cast and its arrival where each is delivered alone, and for two where the later one comes first, so that
-# the other lets it go; these are taken by `receive`, and by `arrive`.
+# the other lets it go; these are taken by `receive`, and by `arrive`, and the last row says how many times as much `arrive` costs.
 # Then the most memory that the proved program has at once (dhat, bytes), for 200 deliveries where most wait: with fewer it is that of
 # making the casts, where it has two members.
 # It wants rustc, python3, valgrind, and the proved program: `rt run` in crates/bench_held leaves it in crates/bench_held/out.
@@ -13,7 +13,7 @@ work=$(mktemp -d)
 trap 'rm -rf "$work"' EXIT
 proved=${PROVED:-$here/../crates/bench_held/out/bench_held}
 [ -x "$proved" ] || (cd "$here/../crates/bench_held" && rt run -- 1000 100 alone > /dev/null)
-rustc -O -o "$work/plain" "$here/plain_held.rs"
+rustc --edition 2021 -O -C target-cpu=x86-64-v2 -o "$work/plain" "$here/plain_held.rs"
 python3 - "$proved" "$work/plain" <<'END'
 import concurrent.futures, os, re, subprocess, sys
 
@@ -50,13 +50,18 @@ def peak(row, waiting):
 
 
 def table(pool, what, measure, rows, held):
-    found = {row[0]: [pool.submit(measure, row, waiting) for waiting in held] for row in rows}
+    runs = {row[0]: [pool.submit(measure, row, waiting) for waiting in held] for row in rows}
     print(f"{what:18}" + "".join(f"{waiting:12}" for waiting in held))
-    for name, cells in found.items():
-        print(f"{name:18}" + "".join(f"{cell.result():12.0f}" for cell in cells), flush=True)
+    found = {}
+    for name, cells in runs.items():
+        found[name] = [cell.result() for cell in cells]
+        print(f"{name:18}" + "".join(f"{cell:12.0f}" for cell in found[name]), flush=True)
+    return found
 
 
 with concurrent.futures.ThreadPoolExecutor(os.cpu_count()) as pool:
-    table(pool, "instructions", instructions, rows, held)
+    found = table(pool, "instructions", instructions, rows, held)
+    pairs = zip(found["two, arrive"], found["two, receive"])
+    print(f"{'arrive to receive':18}" + "".join(f"{arrive / receive:12.2f}" for arrive, receive in pairs))
     table(pool, "most memory, bytes", peak, rows[:3], held[-1:])
 END

@@ -17,7 +17,6 @@ use std::io::{ErrorKind, Read, Write};
 use std::net::{SocketAddr, TcpListener, TcpStream, UdpSocket};
 use std::ops::Range;
 use std::process::ExitCode;
-use std::sync::Arc as Shared;
 use std::sync::Mutex;
 use std::sync::atomic::{AtomicBool, AtomicUsize, Ordering};
 use std::sync::mpsc::{Receiver, RecvTimeoutError, Sender, channel};
@@ -25,10 +24,14 @@ use std::thread;
 use std::time::Duration;
 
 mod member;
+mod own_casts;
 
-use member::{Arrival, CastRefusal, Entry, Frame, History, LONGEST_HISTORY, Name, Outgoing};
+use member::frames::{Frame, Place};
+use member::record::{Entry, History, Name};
+use member::{Arrival, CastRefusal, LONGEST_HISTORY, Outgoing};
+use own_casts::OwnCasts;
 
-type Member<const FIELDS: usize> = member::Member<FIELDS, History>;
+type Member<const FIELDS: usize> = member::Member<FIELDS, History, OwnCasts<FIELDS>>;
 
 const TICK: Duration = Duration::from_millis(1);
 
@@ -313,7 +316,7 @@ struct Message<const FIELDS: usize> {
     name: Name,
     time: [u32; FIELDS],
     frame: Frame,
-    payload: u32,
+    payload: Place,
 }
 
 /// Copies of the events from this one on, behind those in the list.

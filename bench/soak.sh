@@ -21,7 +21,7 @@ work=$(mktemp -d)
 trap 'rm -rf "$work"' EXIT
 proved=${PROVED:-$here/../crates/bench_core/out/bench_core}
 [ -x "$proved" ] || (cd "$here/../crates/bench_core" && rt run -- 3 4 2 12 0 0 > /dev/null)
-rustc -O -o "$work/plain" "$here/plain_member.rs"
+rustc --edition 2021 -O -C target-cpu=x86-64-v2 -o "$work/plain" "$here/plain_member.rs"
 python3 - "$work/plain" "$proved" "${1:-1}" <<'END'
 import re, subprocess, sys, time
 

@@ -1,7 +1,8 @@
 //! A whole group of members with their histories, in one thread: each in its turn takes all that the others sent and casts. Prints how many
 //! messages were delivered, and a digest of their names and times. The run is that of `bench_run`.
 //!
-//! `bench/plain_member.rs` is the same program in plain Rust, and both print the same: `bench/member.sh` compares them and measures.
+//! `bench/plain_member.rs` and `bench/fair_member.rs` are the same run in plain Rust, and all print the same: `bench/member.sh` compares them
+//! and measures.
 #![tactic(auto)]
 
 use bench_run::{Fault, tally_in_words};

@@ -7,7 +7,7 @@ use thiserror::Error;
 /// Why there was no run.
 #[derive(Debug, Drop, Error)]
 pub enum Fault {
-    #[error("the words are SIZE WINDOW PAYLOAD CASTS LOST EXCHANGED [full]")]
+    #[error("the words are SIZE WINDOW PAYLOAD CASTS LOST EXCHANGED [BURST] [full]")]
     Words,
     #[error("out of memory")]
     NoMemory,

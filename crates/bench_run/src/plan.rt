@@ -1,6 +1,6 @@
 //! What the words say of the run.
 
-use cb_frames::LONGEST_PAYLOAD;
+use cb_frames::{LONGEST_PAYLOAD, MOST_MESSAGES};
 use cb_history::Group;
 
 /// The number of the group, which only the frames say.
@@ -14,6 +14,8 @@ pub struct Plan {
     pub casts: u64,
     pub lost: u32,
     pub exchanged: u32,
+    /// How many messages are cast at once, 1 to 32, whose payloads a frame has room for.
+    pub burst: usize,
     /// The run begins with full windows.
     pub is_full: bool,
 }
@@ -22,8 +24,8 @@ pub struct Plan {
 pub fn plan_of(words: &[String]) -> Option<Plan> {
     let (size, window) = (number(words, 1)?, number(words, 2)?);
     let group = Group::new(NUMBER, size, window).ok()?;
-    let payload = number(words, 3)? as usize;
-    if payload > LONGEST_PAYLOAD {
+    let (payload, burst) = (number(words, 3)? as usize, burst(words));
+    if !(1..=MOST_MESSAGES).contains(&burst) || payload > LONGEST_PAYLOAD / burst {
         return None;
     }
     Some(Plan {
@@ -32,12 +34,18 @@ pub fn plan_of(words: &[String]) -> Option<Plan> {
         casts: u64::from(number(words, 4)?),
         lost: number(words, 5)?,
         exchanged: number(words, 6)?,
+        burst,
         is_full: is_full(words),
     })
 }
 
+/// The seventh word, 1 where that is no number.
+fn burst(words: &[String]) -> usize {
+    number(words, 7).unwrap_or(1) as usize
+}
+
 fn is_full(words: &[String]) -> bool {
-    match words.get(7) {
+    match words.last() {
         Some(word) => word.as_str() == "full",
         None => false,
     }

@@ -6,6 +6,7 @@ use crate::speaker::Speaker;
 use crate::stage::{Stage, stage_of};
 use crate::tally::Tally;
 use bytes::Bytes;
+use cb_frames::MOST_MESSAGES;
 use cb_history::Group;
 use cb_times::NoMemory;
 use std::alloc::Global;
@@ -147,22 +148,37 @@ impl<M: Speaker> Run<M> {
         Ok(())
     }
 
-    /// The member casts so often, as long as it may.
+    /// The member casts that many messages, as long as it may.
     fn cast_some(&mut self, me: u32, count: u32) -> Result<(), NoMemory> {
-        let Some(member) = self.members.get_mut(me as usize) else {
-            return Ok(());
-        };
+        let mut left = u64::from(count).min(self.plan.casts.saturating_sub(self.made));
         for _ in 0..count {
-            if self.made >= self.plan.casts {
+            let some = left.min(self.plan.burst as u64);
+            if some == 0 {
                 return Ok(());
             }
-            match member.cast(&self.payload)? {
-                Some(bytes) => self.network.send_to_others(me, &bytes)?,
-                None => return Ok(()),
-            }
-            self.made = self.made.saturating_add(1);
+            let Some(bytes) = self.cast(me, some as usize)? else {
+                return Ok(());
+            };
+            self.network.send_to_others(me, &bytes)?;
+            self.made = self.made.saturating_add(some);
+            left -= some;
         }
         Ok(())
+    }
+
+    /// The frame of that many messages more, where the member may cast them.
+    fn cast(&mut self, me: u32, count: usize) -> Result<Option<Bytes>, NoMemory> {
+        let Some(member) = self.members.get_mut(me as usize) else {
+            return Ok(None);
+        };
+        if self.plan.burst == 1 {
+            return member.cast(&self.payload);
+        }
+        let payloads = [self.payload.as_slice(); MOST_MESSAGES];
+        match payloads.get(..count) {
+            Some(some) => member.cast_burst(some),
+            None => Ok(None),
+        }
     }
 
     fn ticks(&mut self) -> Result<(), NoMemory> {

@@ -3,7 +3,7 @@
 use crate::tally::Tally;
 use bytes::Bytes;
 use cb_history::{
-    ArriveRefusal, CastRefusal, Event, Group, LONGEST_HISTORY, Outgoing, TickRefusal,
+    ArriveRefusal, BurstRefusal, CastRefusal, Event, Group, LONGEST_HISTORY, Outgoing, TickRefusal,
 };
 use cb_member::{CoreMember, Member, Received};
 use cb_times::NoMemory;
@@ -15,6 +15,9 @@ pub trait Speaker: Drop + Sized {
 
     /// The frame of one more cast.
     fn cast(&mut self, payload: &[u8]) -> Result<Option<Bytes>, NoMemory>;
+
+    /// The frame of that many casts more.
+    fn cast_burst(&mut self, payloads: &[&[u8]]) -> Result<Option<Bytes>, NoMemory>;
 
     /// Takes a received frame, and tallies what it delivers: what is sent.
     fn take(&mut self, bytes: &Bytes, tally: &mut Tally) -> Result<Option<Vec<Outgoing>>, NoMemory>;
@@ -35,6 +38,14 @@ impl Speaker for Member {
         match self.cast(payload) {
             Ok(done) => Ok(Some(done.out)),
             Err(CastRefusal::NoMemory) => Err(AllocError),
+            Err(_) => Ok(None),
+        }
+    }
+
+    fn cast_burst(&mut self, payloads: &[&[u8]]) -> Result<Option<Bytes>, NoMemory> {
+        match self.cast_burst(payloads) {
+            Ok(done) => Ok(Some(done.out)),
+            Err(BurstRefusal::NoMemory) => Err(AllocError),
             Err(_) => Ok(None),
         }
     }
@@ -86,6 +97,14 @@ impl Speaker for Core {
         match self.member.cast(payload) {
             Ok(done) => Ok(Some(done.out)),
             Err(CastRefusal::NoMemory) => Err(AllocError),
+            Err(_) => Ok(None),
+        }
+    }
+
+    fn cast_burst(&mut self, payloads: &[&[u8]]) -> Result<Option<Bytes>, NoMemory> {
+        match self.member.cast_burst(payloads) {
+            Ok(done) => Ok(Some(done.out)),
+            Err(BurstRefusal::NoMemory) => Err(AllocError),
             Err(_) => Ok(None),
         }
     }
