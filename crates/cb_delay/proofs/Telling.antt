@@ -88,6 +88,17 @@ module _ (i k count : ℕ) (last : List ℕ) (other : i ≢ k) (within : k < len
     needs = λ j d below same. placed.needs j d below (omega (arith, same, same_own));
   }
 
+-- and so does the member's own place, where nothing is held of it
+own_place_stays : (k count : ℕ) (last : List ℕ) (place : Place) → IsPlaced k [] last place → IsPlaced k [] (set last k count) place
+own_place_stays k count last Free placed = λ j d below. absurd (omega (arith, below))
+own_place_stays k count last Ready some = absurd (omega (arith, some.2))
+own_place_stays k count last (Waits member value) placed = record {
+  of_other = placed.of_other;
+  within = omega (arith, placed.within, length-set last k count);
+  missing = omega (arith, get_or-set_other last k member count 0 placed.of_other, placed.missing);
+  needs = λ j d below. absurd (omega (arith, below));
+}
+
 stands_ready : (place : Place) (bit : ℕ) → bit ≡ 1 → (place ≢ Ready → bit ≡ 0) → place ≡ Ready
 stands_ready Ready bit one is_out = refl
 stands_ready Free bit one is_out = absurd (omega (arith, one, is_out (λ same. cc)))
@@ -98,7 +109,7 @@ module _ (lists : List (List Message)) (last : List ℕ) (places : List Place) (
   module _ (k count reached staying stale_after : ℕ) (within : k < length last) (more : field last k < count) (row : k < length waiting)
       (reaches : (i value : ℕ) → bit_at (slice_index waiting k) i ≡ 1 → place_of places i ≡ Waits k value → value ≤ count → bit_at reached i ≡ 1)
       (stays : (i value : ℕ) → bit_at (slice_index waiting k) i ≡ 1 → place_of places i ≡ Waits k value → count < value → bit_at staying i ≡ 1)
-      (fresh : (i : ℕ) → bit_at stale_after i ≡ 0 → (i ≢ k) × (bit_at stale i ≡ 0) × (bit_at reached i ≡ 0)) where
+      (fresh : (i : ℕ) → bit_at stale_after i ≡ 0 → (i ≡ k → list_of lists k ≡ []) × (bit_at stale i ≡ 0) × (bit_at reached i ≡ 0)) where
     above : (i : ℕ) → bit_at stale_after i ≡ 0 → (value : ℕ) → place_of places i ≡ Waits k value → count < value
     above i known value same =
         let was = fresh i known in
@@ -113,8 +124,18 @@ module _ (lists : List (List Message)) (last : List ℕ) (places : List Place) (
     grown = record {
       placed = λ i below known.
           let was = fresh i known in
-          place_stays i k count last was.0 within more (list_of lists i) (place_of places i) (above i known)
-          (told.placed i (omega (arith, below, length-set last k count)) was.1);
+          let placed = told.placed i (omega (arith, below, length-set last k count)) was.1 in
+          elim (eqb_tells i k) as (λ _. IsPlaced i (list_of lists i) (set last k count) (place_of places i)) [
+            | inl at ↦
+                let none : list_of lists i ≡ [] = ap (list_of lists) at.1 ∙ was.0 at.1 in
+                let own : IsPlaced k [] last (place_of places i) =
+                subst (λ (j : ℕ). IsPlaced j [] last (place_of places i)) at.1
+                (subst (λ (l : List Message). IsPlaced i l last (place_of places i)) none placed) in
+                subst (λ (l : List Message). IsPlaced i l (set last k count) (place_of places i)) (sym none)
+                (subst (λ (j : ℕ). IsPlaced j [] (set last k count) (place_of places i)) (sym at.1)
+                (own_place_stays k count last (place_of places i) own))
+            | inr apart ↦ place_stays i k count last apart.1 within more (list_of lists i) (place_of places i) (above i known) placed
+          ];
       ready_ones = λ i known. told.ready_ones i (fresh i known).1;
       waits = λ i member value known same.
           elim (eqb_tells member k) [
@@ -243,16 +264,25 @@ module _ (lists : List (List Message)) (last : List ℕ) (places : List Place) (
         waits = λ i member value known same. told.waits i member value (was i known) same;
       }
 
--- who is fresh was fresh, and nothing of what concerns it changed
-pub fresh_of : (k stale reached either after : ℕ) → bit_at after k ≡ 1 → ((j : ℕ) → j ≢ k → bit_at after j ≡ bit_at either j)
+-- who is fresh was fresh, and nothing of what concerns it changed, but for the member where none is held of it
+pub fresh_of : (k stale reached either after : ℕ) (holds_some : Bool) (None_held : Type 0) → (holds_some ≡ false → None_held)
+    → (holds_some ≡ true → bit_at after k ≡ 1) → (holds_some ≡ false → bit_at after k ≡ bit_at either k)
+    → ((j : ℕ) → j ≢ k → bit_at after j ≡ bit_at either j)
     → ((i : ℕ) → bit_at either i ≡ 0 → bit_at stale i ≡ 0) → ((i : ℕ) → bit_at either i ≡ 0 → bit_at reached i ≡ 0)
-    → (i : ℕ) → bit_at after i ≡ 0 → (i ≢ k) × (bit_at stale i ≡ 0) × (bit_at reached i ≡ 0)
-fresh_of k stale reached either after member others first second i known =
+    → (i : ℕ) → bit_at after i ≡ 0 → (i ≡ k → None_held) × (bit_at stale i ≡ 0) × (bit_at reached i ≡ 0)
+fresh_of k stale reached either after true None_held none member not others first second i known =
     elim (eqb_tells i k) [
       | inl at ↦
           let here : bit_at after i ≡ bit_at after k = ap (bit_at after) at.1 in
-          absurd (omega (arith, here, member, known))
+          absurd (omega (arith, here, member refl, known))
       | inr apart ↦
-          let none : bit_at either i ≡ 0 = sym (others i apart.1) ∙ known in
-          (apart.1, first i none, second i none)
+          let zero : bit_at either i ≡ 0 = sym (others i apart.1) ∙ known in
+          (λ same. absurd (apart.1 same), first i zero, second i zero)
     ]
+fresh_of k stale reached either after false None_held none member not others first second i known =
+    let zero : bit_at either i ≡ 0 =
+    elim (eqb_tells i k) [
+      | inl at ↦ ap (bit_at either) at.1 ∙ sym (not refl) ∙ sym (ap (bit_at after) at.1) ∙ known
+      | inr apart ↦ sym (others i apart.1) ∙ known
+    ] in
+    (λ _. none refl, first i zero, second i zero)

@@ -1,5 +1,5 @@
 //! Where each sender's candidate stands at the time of the last answer, so that the next looks at few.
-ghost use Rattle.std.specs.Prelude.{◌≡◌, ◌≢◌, ◌+◌, ◌<◌, ◌≤◌, ℕ, List, IfOk, true};
+ghost use Rattle.std.specs.Prelude.{◌≡◌, ◌≢◌, ◌+◌, ◌<◌, ◌≤◌, ℕ, List, [], IfOk, true, false};
 ghost use Rattle.std.specs.Prelude.{length, map, slice_index, slice_set};
 ghost use Rattle.std.specs.Int.{bit_at};
 ghost use Rattle.cb_times.specs.Group.{IsGroupSize};
@@ -9,6 +9,7 @@ ghost use Rattle.cb_delay.specs.declared.place.Place.TheVariants.{Ready, Waits};
 ghost use Rattle.cb_delay.specs.Index.{IsFresh, IsSameIndex, HasShape, Tells, AreRuns, IsPlaced, place_of};
 ghost use Rattle.cb_delay.specs.Lists.{list_of};
 
+use crate::lists::holds_some;
 use crate::members;
 use crate::message::Message;
 use crate::place::{EIGHT, Place, place_at};
@@ -89,14 +90,10 @@ impl Index {
             → self.new.looked ≡ self.old.looked }
         ensures counts { self.old.looked ≤ self.new.looked }
     {
-        let is_there = self.last.as_slice() == now.as_slice();
-        if is_there && self.stale == 0 {
-            return;
+        self.go_to(lists, now);
+        if self.stale != 0 {
+            self.place_the_stale(lists);
         }
-        if !is_there {
-            self.go_to(now);
-        }
-        self.place_the_stale(lists);
     }
 
     /// Whether nobody is ready, nor reached once one more message of this member is delivered.
@@ -116,85 +113,70 @@ impl Index {
             && walk_over(self.waiting[member as usize], &self.places, member, count).reached == 0
     }
 
-    /// Makes its time that at which one message more of this member is delivered.
-    pub fn go_one_further(&mut self, member: u32)
+    /// Makes its time that at which one message more of this member is delivered. `holds_some` says whether any is held of it.
+    pub fn go_one_further(&mut self, member: u32, holds_some: bool)
         requires member { member < length self.old.last }
         requires shape { HasShape (length self.old.last) self.old }
         ensures shape { HasShape (length self.old.last) self.new }
-        ensures placed { (lists : List (List Message)) → Tells lists self.old → Tells lists self.new }
+        ensures placed { (lists : List (List Message)) → (holds_some ≡ false → list_of lists member ≡ [])
+            → Tells lists self.old → Tells lists self.new }
         ensures looked { self.new.looked ≡ self.old.looked }
     {
         if let Some(count) = self.last.get(member).checked_add(1) {
-            self.grow(member, count);
+            self.grow(member, count, holds_some);
         }
     }
 
-    /// Makes this the time of the index.
-    fn go_to(&mut self, now: &VectorTime)
-        requires { HasShape (length now.now) self.old }
-        ensures shape { HasShape (length now.now) self.new }
-        ensures last { self.new.last ≡ now.now }
-        ensures placed { (lists : List (List Message)) → Tells lists self.old → Tells lists self.new }
-        ensures looked { self.new.looked ≡ self.old.looked }
-    {
-        let mut k = 0;
-        while k < now.size() {
-            k = self.go_on_to(now, k);
-        }
-    }
-
-    /// Makes the next field that differs that of this time. It answers up to which member the fields are so.
-    fn go_on_to(&mut self, now: &VectorTime, first: u32) -> u32
+    /// Makes this the time of the index: goes from one field that differs to the next.
+    fn go_to(&mut self, lists: &[VecDeque<Message>], now: &VectorTime)
+        requires size { length lists.now ≡ length now.now }
         requires shape { HasShape (length now.now) self.old }
-        requires member { first < length now.now }
-        ensures further { first < result }
-        ensures within { result ≤ length now.now }
         ensures shape { HasShape (length now.now) self.new }
-        ensures same { ((k : ℕ) → k < first → field self.old.last k ≡ field now.now k)
-            → (k : ℕ) → k < result → field self.new.last k ≡ field now.now k }
-        ensures placed { (lists : List (List Message)) → Tells lists self.old → Tells lists self.new }
+        ensures placed { Tells (map (λ list. list.items) lists.now) self.old
+            → Tells (map (λ list. list.items) lists.now) self.new }
+        ensures last { self.new.last ≡ now.now }
+        ensures still { self.old.last ≡ now.now → self.new.stale ≡ self.old.stale }
         ensures looked { self.new.looked ≡ self.old.looked }
     {
-        let k = same_before(self.last.as_slice(), now.as_slice(), first as usize) as u32;
-        if k >= now.size() {
-            return k;
+        let mut k = same_before(self.last.as_slice(), now.as_slice(), 0);
+        while k < now.as_slice().len() {
+            self.set_field(lists, k as u32, now.get(k as u32));
+            k = same_before(self.last.as_slice(), now.as_slice(), k + 1);
         }
-        self.set_field(k, now.get(k));
-        k + 1
     }
 
-    fn set_field(&mut self, k: u32, count: u32)
+    fn set_field(&mut self, lists: &[VecDeque<Message>], k: u32, count: u32)
+        requires size { length lists.now ≡ length self.old.last }
         requires member { k < length self.old.last }
         requires shape { HasShape (length self.old.last) self.old }
         ensures shape { HasShape (length self.old.last) self.new }
+        ensures placed { Tells (map (λ list. list.items) lists.now) self.old
+            → Tells (map (λ list. list.items) lists.now) self.new }
         ensures last { self.new.last ≡ slice_set self.old.last k count }
-        ensures placed { (lists : List (List Message)) → Tells lists self.old → Tells lists self.new }
         ensures looked { self.new.looked ≡ self.old.looked }
     {
-        let before = self.last.get(k);
-        if before == count {
-            return;
-        }
-        if before < count {
-            self.grow(k, count);
+        if self.last.get(k) < count {
+            self.grow(k, count, holds_some(lists, k));
             return;
         }
         self.shrink(k, count);
     }
 
-    /// More of member k is delivered: its own candidate is another, and who waited for that may be ready.
-    fn grow(&mut self, k: u32, count: u32)
+    /// More of member k is delivered: who waited for that may be ready, and where any is held of k, its candidate is another.
+    fn grow(&mut self, k: u32, count: u32, holds_some: bool)
         requires member { k < length self.old.last }
         requires shape { HasShape (length self.old.last) self.old }
         requires more { field self.old.last k < count }
         ensures shape { HasShape (length self.old.last) self.new }
         ensures last { self.new.last ≡ slice_set self.old.last k count }
-        ensures placed { (lists : List (List Message)) → Tells lists self.old → Tells lists self.new }
+        ensures placed { (lists : List (List Message)) → (holds_some ≡ false → list_of lists k ≡ [])
+            → Tells lists self.old → Tells lists self.new }
         ensures looked { self.new.looked ≡ self.old.looked }
     {
         let walk = walk_over(self.waiting[k as usize], &self.places, k, count);
         self.waiting[k as usize] = walk.waiting;
-        self.stale = members::with(members::either(self.stale, walk.reached), k);
+        let others = members::either(self.stale, walk.reached);
+        self.stale = members::with_if(others, k, holds_some);
         self.last.set(k, count);
     }
 
@@ -256,6 +238,7 @@ fn same_before(before: &[u32], now: &[u32], first: usize) -> usize
     ensures from { first ≤ result }
     ensures within { result ≤ length now.now }
     ensures same { (k : ℕ) → first ≤ k → k < result → field before.now k ≡ field now.now k }
+    ensures differs { result < length now.now → field before.now result ≢ field now.now result }
 {
     let mut k = same_eights(before, now, first);
     while k < now.len() && before[k] == now[k] {
@@ -318,9 +301,9 @@ fn walk_over(set: u64, places: &[Place], member: u32, count: u32) -> Walk
     let mut waiting = 0;
     while let Some(i) = members::first(left) {
         left = members::without(left, i);
-        let place = places[i as usize];
-        reached = members::with_if(reached, i, place.is_reached(member, count));
-        waiting = members::with_if(waiting, i, place.still_waits(member, count));
+        let standing = places[i as usize].standing_at(member, count);
+        reached = members::with_if(reached, i, standing.is_reached);
+        waiting = members::with_if(waiting, i, standing.still_waits);
     }
     Walk { reached, waiting }
 }

@@ -26,19 +26,33 @@ pub enum Place {
 }
 
 impl Place {
-    /// Whether the candidate waits for this field, which a count of `count` gives it.
-    pub fn is_reached(&self, member: u32, count: u32) -> bool
-        ensures { result ≡ false → (value : ℕ) → self.now ≡ Waits member value → count < value }
+    /// How the candidate stands to this member once `count` of its messages are delivered.
+    pub fn standing_at(&self, member: u32, count: u32) -> Standing
+        ensures reached { result.is_reached ≡ false
+            → (value : ℕ) → self.now ≡ Waits member value → count < value }
+        ensures waits { result.still_waits ≡ false
+            → (value : ℕ) → self.now ≡ Waits member value → value ≤ count }
     {
-        matches!(self, Place::Waits { field, value } if *field == member && *value <= count)
+        match self {
+            Place::Waits { field, value } if *field == member => Standing {
+                is_reached: *value <= count,
+                still_waits: count < *value,
+            },
+            Place::Free | Place::Ready | Place::Waits { .. } => Standing {
+                is_reached: false,
+                still_waits: false,
+            },
+        }
     }
+}
 
-    /// Whether it goes on waiting for this field at a count of `count`.
-    pub fn still_waits(&self, member: u32, count: u32) -> bool
-        ensures { result ≡ false → (value : ℕ) → self.now ≡ Waits member value → value ≤ count }
-    {
-        matches!(self, Place::Waits { field, value } if *field == member && count < *value)
-    }
+/// How a candidate stands to one member, for whom it may wait.
+#[derive(Clone, Copy, Debug)]
+pub struct Standing {
+    /// It waited for this member, and no longer has to.
+    pub is_reached: bool,
+    /// It has to wait on for this member.
+    pub still_waits: bool,
 }
 
 /// Looks at the candidate of a sender: where it stands at this time.

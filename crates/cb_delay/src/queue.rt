@@ -151,7 +151,7 @@ impl DelayQueue {
         ensures counts { self.old.looked ≤ self.new.looked }
     {
         self.index.settle(&self.lists, now);
-        if !self.lists[sender as usize].is_empty() {
+        if lists::holds_some(&self.lists, sender) {
             return false;
         }
         self.index.none_goes_with(sender)
@@ -166,7 +166,8 @@ impl DelayQueue {
         ensures queue { IsDelayQueue self.old }
         ensures looked { self.new.looked ≡ self.old.looked }
     {
-        self.index.go_one_further(sender);
+        let holds_some = lists::holds_some(&self.lists, sender);
+        self.index.go_one_further(sender, holds_some);
     }
 
     /// Takes out the message of this sender with the smallest number, where one is held.

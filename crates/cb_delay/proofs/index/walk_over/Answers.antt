@@ -13,17 +13,17 @@ loop-i-preserved c =
       left = none_more c.args.set c.in-Some.i c.loop-i.left c.loop-i.left c.without-left.result c.in-Some.ensures.member was.left
           c.without-left.ensures.others was.left;
       found = λ i value member gone place enough.
-          one_more c.in-Some.i c.loop-i.left c.without-left.result c.loop-i.reached c.with_if-reached.result i c.is_reached.result
+          one_more c.in-Some.i c.loop-i.left c.without-left.result c.loop-i.reached c.with_if-reached.result i c.standing_at-standing.result.is_reached
           (λ j. (v : ℕ) × (place_of c.args.places.now j ≡ Waits c.args.member v) × (v ≤ c.args.count))
           c.without-left.ensures.others c.with_if-reached.ensures.member c.with_if-reached.ensures.others
-          (λ out wanted. omega (arith, c.is_reached.ensures out wanted.0 wanted.1, wanted.2))
+          (λ out wanted. omega (arith, c.standing_at-standing.ensures.reached out wanted.0 wanted.1, wanted.2))
           (λ before wanted. was.found i wanted.0 member before wanted.1 wanted.2)
           gone (value, place, enough);
       waits = λ i value member gone place below.
-          one_more c.in-Some.i c.loop-i.left c.without-left.result c.loop-i.waiting c.with_if-waiting.result i c.still_waits.result
+          one_more c.in-Some.i c.loop-i.left c.without-left.result c.loop-i.waiting c.with_if-waiting.result i c.standing_at-standing.result.still_waits
           (λ j. (v : ℕ) × (place_of c.args.places.now j ≡ Waits c.args.member v) × (c.args.count < v))
           c.without-left.ensures.others c.with_if-waiting.ensures.member c.with_if-waiting.ensures.others
-          (λ out wanted. omega (arith, c.still_waits.ensures out wanted.0 wanted.1, wanted.2))
+          (λ out wanted. omega (arith, c.standing_at-standing.ensures.waits out wanted.0 wanted.1, wanted.2))
           (λ before wanted. was.waits i wanted.0 member before wanted.1 wanted.2)
           gone (value, place, below);
       none_found = none_more c.args.set c.in-Some.i c.loop-i.left c.loop-i.reached c.with_if-reached.result c.in-Some.ensures.member was.left

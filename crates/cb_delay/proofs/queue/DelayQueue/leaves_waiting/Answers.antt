@@ -1,11 +1,9 @@
-use Rattle.std.proofs.Common.{◌≡◌, ◌+◌, ◌<◌, ℕ, [], length, arith, subst, sym, ap, ◌∙◌}
-use Rattle.std.specs.VecDeque.{deque_len}
-use Rattle.std.proofs.lemmas.Bool.{eqb-true}
+use Rattle.std.proofs.Common.{◌≡◌, ◌+◌, ℕ, [], length, arith, subst, ap}
 use Rattle.cb_times.specs.Order.{field}
 use Rattle.cb_delay.specs.Lists.{list_of}
 use Rattle.cb_delay.specs.Index.{HasShape, settled_at}
 use Rattle.cb_delay.proofs.Kept.{is_delay_queue}
-use Rattle.cb_delay.proofs.Deques.{lists_of, length-lists_of, list_of-deques, nil_of_length, queue_seen}
+use Rattle.cb_delay.proofs.Deques.{lists_of, queue_seen}
 use Rattle.cb_delay.proofs.Answering.{none_ready, none_ready_with}
 use Rattle.cb_delay.proofs.queue.DelayQueue.leaves_waiting.Goals as goal
 
@@ -22,8 +20,8 @@ returns-clause-none c waits =
     c.args.now.now c.settle.ensures.last c.self.inside.index.looked (settled_at c.self.inside.index)
     (c.none_goes_with.ensures.none waits))
 
-pub returns-then-not-is_empty-clause-queue : goal.returns-then-not-is_empty-clause-queue
-returns-then-not-is_empty-clause-queue c =
+pub returns-then-holds_some-clause-queue : goal.returns-then-holds_some-clause-queue
+returns-then-holds_some-clause-queue c =
     rw (← c.self.view_is) (queue_seen _ _ (is_delay_queue c.self.inside.window (lists_of c.self.inside.lists.items) c.self.invariant.0))
 
 pub returns-clause-none_next : goal.returns-clause-none_next
@@ -32,10 +30,7 @@ returns-clause-none_next c waits =
     let below = rw (← c.self.view_is) at c.requires.sender in
     let told = rw c.deref.ensures.value at c.settle.ensures.placed in
     let deques = c.self.inside.lists.items in
-    let within : c.args.sender < length deques = omega (arith, below, length-lists_of deques) in
-    let none_held : deque_len c.index.result.now ≡ 0 = eqb-true (deque_len c.index.result.now) 0 (sym c.is_empty.ensures ∙ c.if-not-is_empty.false) in
-    let empty : list_of (lists_of deques) c.args.sender ≡ [] =
-    list_of-deques deques c.args.sender c.index.result.now within c.index.ensures ∙ nil_of_length c.index.result.now.items (omega (arith, none_held, c.index.result.now.ok.0)) in
+    let empty : list_of (lists_of deques) c.args.sender ≡ [] = rw c.deref-2.ensures.value at c.holds_some.ensures c.if-holds_some.false in
     rw (← c.self.view_is, ← c.settle.ensures.last)
     (none_ready_with c.self.inside.window (lists_of deques) c.self.invariant.0 c.settle.new.self
     (subst (λ (n : ℕ). HasShape n c.settle.new.self) size c.settle.ensures.shape) told c.settle.ensures.stale
