@@ -27,6 +27,7 @@ use Rattle.cb_member.specs.declared.state.State.{State}
 use Rattle.cb_member.specs.declared.wanted.Made.{Made}
 use Rattle.cb_member.specs.declared.wanted.Told.{Told}
 use Rattle.cb_member.specs.declared.wanted.Wanted.{Wanted}
+use Rattle.cb_member.specs.Asked.{wants_answer, wants_entry}
 use Rattle.cb_member.specs.Casting.{CanCast, CanKeepCast, HasKept, IsCasting, IsSameButBlock, JudgesLoad, MakesCasting, RefusesLoad, messages_made, next_text, time_of_last}
 use Rattle.cb_member.specs.CoreCalls.{AnswersLoadInto, AnswersTickOnEach, CanKeepOnEach, HasCastWith, HasJoinedMade, JoinsCastOnEach, MayCast, added}
 use Rattle.cb_member.specs.CoreMember.{Core, GoesOn, IsCore, OnEach, StandsFor, core_of, unlimited}
@@ -134,9 +135,9 @@ module _ (load : Load) (old new : State) (casting : Casting) (frame time : List 
   kept_is_core = core_goes_on (ToCast load) (core_of old) (core_of new) c.can.core goes_on
 
   -- the events are those of its messages
-  pub joins_so : (wanted : Wanted) (before after : List Event) (copy : Option (List ℕ)) (noted : Option Entry) → after ≡ before ++ map (λ m. events.Cast m) (messages_made casting)
-      → (wanted.answer ≡ true → copy ≡ Some casting.first.time) → (wanted.entry ≡ true → option_map entry_fields noted ≡ Some (CastEntry frame))
-      → JoinsCastOnEach wanted load (core_of old) (core_of new) before after (record { first = casting.first.name; count = count; time = copy; out = casting.out; noted = noted }, entries.Cast frame)
+  pub joins_so : (wanted : Wanted) (before after : List Event) (copy : Option (List ℕ)) (noted : Option (List ℕ)) → after ≡ before ++ map (λ m. events.Cast m) (messages_made casting)
+      → (wants_answer wanted ≡ true → copy ≡ Some casting.first.time) → (wants_entry wanted ≡ true → noted ≡ Some casting.out)
+      → JoinsCastOnEach wanted load (core_of old) (core_of new) before after (record { first = casting.first.name; count = count; time = copy; out = casting.out; noted = noted }, frame)
   joins_so wanted before after copy noted joined copied noted_so = record {
     goes_on = goes_on;
     answer = answer;
@@ -148,12 +149,12 @@ module _ (load : Load) (old new : State) (casting : Casting) (frame time : List 
       time_is = copied want;
       done = λ es s. burst_told old.seat (facts_of es) load casting casting.first.time count (made es s) refl c.many;
     };
-    noted = noted_so;
+    noted = λ want. noted_so want ∙ ap (λ (text : List ℕ). Some text) (sym c.copied);
   }
 
 -- ---- what is answered
 
-pub answers_into : {R E : Type 0} (Refuses : MemberState → Load → R → Type 0) (wanted : Wanted) (load : Load) (old mid : State) (new : Core) (before after : List Event) (cast : Made × Entry) → IsSameButBlock old mid
+pub answers_into : {R E : Type 0} (Refuses : MemberState → Load → R → Type 0) (wanted : Wanted) (load : Load) (old mid : State) (new : Core) (before after : List Event) (cast : Made × List ℕ) → IsSameButBlock old mid
     → HasJoinedMade {E = E} wanted load (core_of mid) new before after (Ok cast) → AnswersLoadInto Refuses wanted load (core_of old) new before after (Ok cast)
 answers_into Refuses wanted load old mid new before after cast block joined = record {
   core = joined.core;
@@ -164,8 +165,8 @@ answers_into Refuses wanted load old mid new before after cast block joined = re
 }
 
 -- the definition casts it
-pub has_cast : (wanted : Wanted) (load : Load) (old new : Core) (before after : List Event) (cast : Made × Entry) (frame : List ℕ) → JoinsCastOnEach wanted load old new before after cast → frame ≡ cast.0.out
-    → OnEach old (λ m. HasCastWith m load (frame, cast.1) (added before after))
+pub has_cast : (wanted : Wanted) (load : Load) (old new : Core) (before after : List Event) (cast : Made × List ℕ) (frame : List ℕ) → JoinsCastOnEach wanted load old new before after cast → frame ≡ cast.0.out
+    → OnEach old (λ m. HasCastWith m load (frame, entries.Cast cast.1) (added before after))
 has_cast wanted load old new before after cast frame joins is es s = record {
   answer = joins.answer es s;
   frame = is ∙ joins.frame es s;
@@ -229,7 +230,7 @@ module _ (old : State) (is_new : Bool) (bytes : List ℕ) (out : List Outgoing) 
       goes_on_none ToTick (core_of old) (λ es s. tick_entered es s ∙ t.entry_is ∙ ap (λ (b : Bool). if b then Some (TickEntry bytes) else None) off)
 
   pub ticks_so : (wanted : Wanted) (new : State) (told : Told) → told.ticked.entered ≡ is_new → told.ticked.out.items ≡ out
-      → (wanted.entry ≡ true → option_map entry_fields told.noted ≡ option_map entry_fields entry)
+      → (wants_entry wanted ≡ true → option_map entry_fields told.noted ≡ option_map entry_fields entry)
       → GoesOn ToTick (core_of old) (core_of new) → AnswersTickOnEach wanted (core_of old) (core_of new) (Ok (told, entry))
   ticks_so wanted new told entered sent copy goes = record {
     core = core_goes_on ToTick (core_of old) (core_of new) t.core goes;

@@ -31,6 +31,7 @@ use Rattle.cb_member.specs.CoreMember.{Core, GoesOn as CoreGoesOn, OnEach as OnE
 use Rattle.cb_member.specs.CoreCalls.{HasReceivedWith, JoinsAs, MayCast, RefusesWithin, TellsCast}
 use Rattle.cb_member.specs.Received.{count_said, deliveries_in, received_says}
 use Rattle.cb_member.specs.Kept.{IsKept, Kept, OnEach, Stands, limit_of, state_with}
+use Rattle.cb_member.specs.Asked.{wants_answer, wants_entry}
 use Rattle.cb_member.specs.KeptCalls.{HasMade, HasReceived, HasTold, Tells}
 use Rattle.cb_member.proofs.Adding.{arrival_adds, cast_adds, tick_adds}
 use Rattle.cb_member.proofs.Keeping.{Adds, goes_on, is_kept}
@@ -87,27 +88,17 @@ arrival_refused_at : (old : Kept) (bytes : List ℕ) (refusal : ArriveRefusal) (
 arrival_refused_at old bytes refusal es (inl says) = inl (arrival_refused old.core.seat (limit_of old es) es bytes refusal says)
 arrival_refused_at old bytes refusal es (inr memory) = inr memory
 
-refused_at : (old : Kept) (bytes : List ℕ) (may_enter : Bool) (refusal : ArriveRefusal) (es : List EntryFields) → Stands old es → (refusal ≡ refusals.HistoryFull → Full old ≡ true)
+full_at : (old : Kept) (bytes : List ℕ) (may_enter : Bool) (refusal : ArriveRefusal) (es : List EntryFields) → Stands old es → (may_enter ≡ false → Full old ≡ true)
     → RefusesWithin may_enter (unlimited old.core.seat es) bytes refusal → RefusesArrival (state_with old es) bytes refusal
-refused_at old bytes may_enter refusal es st full (inl refuses) = arrival_refused_at old bytes refusal es refuses
-refused_at old bytes may_enter refusal es st full (inr enters) =
-    inl (arrival_full old.core.seat (limit_of old es) es bytes (has_none old (full enters.1) es st) enters.2
+full_at old bytes may_enter refusal es st full (inl refuses) = arrival_refused_at old bytes refusal es refuses
+full_at old bytes may_enter refusal es st full (inr enters) =
+    inl (arrival_full old.core.seat (limit_of old es) es bytes (has_none old (full enters.0) es st) enters.2
     ∙ ap (λ (r : ArriveRefusal). let x : Result ArrivalSays ArriveRefusal = Err r in x) (sym enters.1))
 
-no_memory_at : (old : Kept) (bytes : List ℕ) (may_enter : Bool) (es : List EntryFields) → RefusesWithin may_enter (unlimited old.core.seat es) bytes refusals.HistoryFull
-    → RefusesArrival (state_with old es) bytes refusals.NoMemory
-no_memory_at old bytes may_enter es (inl (inl full)) = inr (refl, arrival_read old.core.seat (room_for_one es) es bytes (inl full))
-no_memory_at old bytes may_enter es (inl (inr memory)) = inr (refl, memory.1)
-no_memory_at old bytes may_enter es (inr enters) = inr (refl, arrival_read old.core.seat (room_for_one es) es bytes (inr enters.2))
-
--- it is refused so; but where an entry was refused and the history is not full, there was no memory for the entry
-pub arrival_refused_so : (old : Kept) (bytes : List ℕ) (may_enter full : Bool) (refusal answer : ArriveRefusal) → Full old ≡ full → OnEachCore old.core (λ m. RefusesWithin may_enter m bytes refusal)
-    → ((answer ≡ refusal) × (refusal ≡ refusals.HistoryFull → full ≡ true)) ⊎ ((refusal ≡ refusals.HistoryFull) × (answer ≡ refusals.NoMemory)) → OnEach old (λ m. RefusesArrival m bytes answer)
-arrival_refused_so old bytes may_enter full refusal answer is refuses (inl same) es st =
-    subst (λ (r : ArriveRefusal). RefusesArrival (state_with old es) bytes r) (sym same.0) (refused_at old bytes may_enter refusal es st (λ on. is ∙ same.1 on) (refuses es st.stands))
-arrival_refused_so old bytes may_enter full refusal answer is refuses (inr none) es st =
-    subst (λ (r : ArriveRefusal). RefusesArrival (state_with old es) bytes r) (sym none.1)
-    (no_memory_at old bytes may_enter es (subst (λ (r : ArriveRefusal). RefusesWithin may_enter (unlimited old.core.seat es) bytes r) none.0 (refuses es st.stands)))
+-- where an entry is refused only where the history is full
+pub arrival_refused_so : (old : Kept) (bytes : List ℕ) (may_enter : Bool) (refusal : ArriveRefusal) → (may_enter ≡ false → Full old ≡ true) → OnEachCore old.core (λ m. RefusesWithin may_enter m bytes refusal)
+    → OnEach old (λ m. RefusesArrival m bytes refusal)
+arrival_refused_so old bytes may_enter refusal full refuses es st = full_at old bytes may_enter refusal es st full (refuses es st.stands)
 
 pub tick_refused_full : (old : Kept) → Full old ≡ true → OnEachCore old.core (λ m. true ≡ is_new_status m.seat (facts_in m)) → OnEach old (λ m. RefusesTick m ticks.HistoryFull)
 tick_refused_full old full news es st = inl (tick_full old.core.seat (limit_of old es) es (sym (news es st.stands)) (has_none old full es st))
@@ -183,8 +174,8 @@ module _ (old new : Kept) (load : Load) (after : List Event) (entry : EntryField
   pub cast_kept : IsKept new
   cast_kept = is_kept (ToCast load) old new after (Some entry) cast_did
 
-  pub casts_so : (wanted : Wanted) (made : Made) → OnEachCore old.core (λ m. made.out ≡ text_of (CastFrame (next_in m load))) → (wanted.answer ≡ true → TellsCast load old.core made)
-      → (wanted.entry ≡ true → option_map entry_fields made.noted ≡ Some entry) → HasMade wanted old new load made
+  pub casts_so : (wanted : Wanted) (made : Made) → OnEachCore old.core (λ m. made.out ≡ text_of (CastFrame (next_in m load))) → (wants_answer wanted ≡ true → TellsCast load old.core made)
+      → (wants_entry wanted ≡ true → option_map (λ frame. CastEntry frame) made.noted ≡ Some entry) → HasMade wanted old new load made
   casts_so wanted made frame_is told noted = record {
     kept = cast_kept;
     cast = record { answer = cast_answer_is; frame_is = λ es st. frame_is es st.stands; goes_on = goes_on (ToCast load) old new after (Some entry) cast_did };
@@ -296,7 +287,7 @@ module _ (old new : Kept) (told : Told) (entry : Option EntryFields) (did : Did 
   pub tick_kept : IsKept new
   tick_kept = is_kept ToTick old new old.events entry tick_did
 
-  pub ticks_so : (wanted : Wanted) → (wanted.entry ≡ true → option_map entry_fields told.noted ≡ entry) → HasTold wanted old new told
+  pub ticks_so : (wanted : Wanted) → (wants_entry wanted ≡ true → option_map entry_fields told.noted ≡ entry) → HasTold wanted old new told
   ticks_so wanted noted = record {
     kept = tick_kept;
     answer = λ es st. free_tick es st ∙ (done es st.stands).answer;

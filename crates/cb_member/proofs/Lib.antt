@@ -31,6 +31,7 @@ pub mod NeverFull
 pub mod OwnCasts
 pub mod Made
 pub mod Members
+pub mod Naming
 pub mod Passing
 pub mod Putting
 pub mod Reading

@@ -1,12 +1,12 @@
 -- A member that keeps its history is the one with the entries that are kept, before and after each call.
-use Rattle.std.proofs.Common.{◌≡◌, ◌≢◌, ℕ, ◌==◌, ◌≤◌, Bool, true, false, List, [], ◌∷◌, ◌++◌, length, Some, None, Result, Ok, refl, sym, ap, subst, ◌∙◌, arith, inl, inr}
+use Rattle.std.proofs.Common.{◌≡◌, ◌≢◌, ℕ, ◌==◌, ◌≤◌, Bool, true, false, List, [], ◌∷◌, ◌++◌, length, Option, Some, None, Result, Ok, refl, sym, ap, subst, ◌∙◌, arith, inl, inr}
 use Rattle.std.specs.Prelude.{if◌then◌else◌, option_map}
 use Rattle.std.proofs.lemmas.Bool.{cases_Bool, ne_eqb}
 use Rattle.cb_frames.specs.Fields.{Load}
 use Rattle.cb_delay.specs.declared.message.Message.{Message}
 use Rattle.cb_history.specs.Answers.{ArrivalSays, arrival_says, burst_done}
 use Rattle.cb_history.specs.Events.{events}
-use Rattle.cb_history.specs.Facts.{EntryFields, TickEntry, entry_fields, facts_of}
+use Rattle.cb_history.specs.Facts.{CastEntry, EntryFields, TickEntry, entry_fields, facts_of}
 use Rattle.cb_history.specs.Group.{Parameters}
 use Rattle.cb_history.specs.Legal.{Call, ToCast, ToTake, ToTick, cast_entry, longest_history, room_for_one}
 use Rattle.cb_history.specs.State.{MemberState, IsMemberState, HasCast, HasCastBurst, HasTaken, HasTicked, answer_to_arrival, answer_to_cast, answer_to_tick, entry_by, facts_in, next_in, state_after}
@@ -16,6 +16,7 @@ use Rattle.cb_history.specs.declared.answer.BurstDone.{BurstDone}
 use Rattle.cb_history.specs.declared.answer.CastDone.{CastDone}
 use Rattle.cb_history.specs.declared.answer.Outgoing.{Outgoing}
 use Rattle.cb_history.specs.declared.history.Entry.{Entry}
+use Rattle.cb_member.specs.Asked.{wants_answer, wants_entry}
 use Rattle.cb_member.specs.declared.received.Received.{Received}
 use Rattle.cb_member.specs.declared.received.Received.TheVariants as takens
 use Rattle.cb_member.specs.declared.wanted.Taken.{Taken}
@@ -125,16 +126,16 @@ module _ (wanted : Wanted) (load : Load) (old new : Kept) (made : Made) (h : Kee
   pub made_keeps : KeepsHistory new
   made_keeps = still_keeps (ToCast load) old new h m.cast.goes_on m.kept
 
-  pub time_is_told : wanted.answer ≡ true → made.time ≢ None
+  pub time_is_told : wants_answer wanted ≡ true → made.time ≢ None
   time_is_told want none = let told = m.told want in let e = sym told.1 ∙ none in absurd cc
 
-  pub entry_is_told : wanted.entry ≡ true → made.noted ≢ None
+  pub entry_is_told : wants_entry wanted ≡ true → made.noted ≢ None
   entry_is_told want none =
       let e = sym (ap cast_entry (of_member old h (λ m. answer_to_cast m load ≡ Ok (next_in m load)) m.cast.answer))
-      ∙ of_member old h (λ x. entry_by x (ToCast load) ≡ option_map entry_fields made.noted) (m.noted want) ∙ ap (option_map entry_fields) none in
+      ∙ of_member old h (λ x. entry_by x (ToCast load) ≡ option_map (λ frame. CastEntry frame) made.noted) (m.noted want) ∙ ap (option_map (λ (frame : List ℕ). CastEntry frame)) none in
       absurd cc
 
-  pub made_burst : (done : BurstDone) → ((time : List ℕ) → made.time ≡ Some time → done ≡ done_at made time) → wanted.answer ≡ true → HasCastBurst (member_of old) (member_of new) load done
+  pub made_burst : (done : BurstDone) → ((time : List ℕ) → made.time ≡ Some time → done ≡ done_at made time) → wants_answer wanted ≡ true → HasCastBurst (member_of old) (member_of new) load done
   made_burst done is want =
       let told = m.told want in
       record {
@@ -144,14 +145,14 @@ module _ (wanted : Wanted) (load : Load) (old new : Kept) (made : Made) (h : Kee
       }
 
   -- of one message
-  pub made_cast : (done : CastDone) → ((time : List ℕ) → made.time ≡ Some time → done ≡ as_cast_done (done_at made time)) → wanted.answer ≡ true → HasCast (member_of old) (member_of new) load done
+  pub made_cast : (done : CastDone) → ((time : List ℕ) → made.time ≡ Some time → done ≡ as_cast_done (done_at made time)) → wants_answer wanted ≡ true → HasCast (member_of old) (member_of new) load done
   made_cast done is want =
       let told = m.told want in
       let burst = made_burst (done_at made told.0) (λ time at. ap (done_at made) (some_is told.0 time (sym told.1 ∙ at))) want in
       record { answer = burst.answer; reported = is told.0 told.1 ∙ ap as_cast_done burst.reported; after = burst.after }
 
-  pub made_entry : (entry : Entry) → made.noted ≡ Some entry → wanted.entry ≡ true → entry_by (member_of old) (ToCast load) ≡ Some (entry_fields entry)
-  made_entry entry is want = of_member old h (λ x. entry_by x (ToCast load) ≡ option_map entry_fields made.noted) (m.noted want) ∙ ap (option_map entry_fields) is
+  pub made_entry : (entry : Entry) → option_map (λ (frame : List ℕ). CastEntry frame) made.noted ≡ Some (entry_fields entry) → wants_entry wanted ≡ true → entry_by (member_of old) (ToCast load) ≡ Some (entry_fields entry)
+  made_entry entry is want = of_member old h (λ x. entry_by x (ToCast load) ≡ option_map (λ (frame : List ℕ). CastEntry frame) made.noted) (m.noted want) ∙ is
 
 -- ---- received bytes
 
@@ -161,14 +162,14 @@ same_sent (takens.Accepted delivered changed out) messages = refl
 same_sent takens.Repeat messages = refl
 
 -- what was left to be read before stays, or not: where a history is kept, that is the same
-module _ (wanted : Wanted) (bytes : List ℕ) (old new : Kept) (taken : Taken) (h : KeepsHistory old) (t : HasReceivedWanting wanted false old new bytes taken) where
-  abbrev received : HasReceived old new bytes taken.received
-  received = subst (λ (k : Kept). HasReceived old k bytes taken.received) (sym t.received.2) t.received.1
+module _ (wanted : Wanted) (bytes : List ℕ) (old new : Kept) (taken : Taken × Option Entry) (h : KeepsHistory old) (t : HasReceivedWanting wanted false old new bytes taken) where
+  abbrev received : HasReceived old new bytes taken.0.received
+  received = subst (λ (k : Kept). HasReceived old k bytes taken.0.received) (sym t.received.2) t.received.1
 
   pub received_keeps : KeepsHistory new
   received_keeps = still_keeps (ToTake bytes) old new h received.goes_on t.kept
 
-  pub received_frame : HasReceivedFrame (member_of old) (member_of new) bytes taken.received
+  pub received_frame : HasReceivedFrame (member_of old) (member_of new) bytes taken.0.received
   received_frame = record {
     says = t.received.1.says;
     answer = of_member old h (λ m. answer_to_arrival m bytes ≡ Ok t.received.1.says) t.received.1.answer;
@@ -178,28 +179,28 @@ module _ (wanted : Wanted) (bytes : List ℕ) (old new : Kept) (taken : Taken) (
   }
 
   -- with copies of what was delivered
-  pub received_arrival : (arrival : Arrival) → arrival_says arrival ≡ received_says taken.received taken.deliveries.items → wanted.answer ≡ true → HasTaken (member_of old) (member_of new) bytes arrival
+  pub received_arrival : (arrival : Arrival) → arrival_says arrival ≡ received_says taken.0.received taken.0.deliveries.items → wants_answer wanted ≡ true → HasTaken (member_of old) (member_of new) bytes arrival
   unfolding received_frame
   received_arrival arrival is want =
       let says = t.received.1.says in
-      let same : arrival_says arrival ≡ says = is ∙ ap (received_says taken.received) (t.deliveries want) ∙ t.received.1.tells.said in
+      let same : arrival_says arrival ≡ says = is ∙ ap (received_says taken.0.received) (t.deliveries want) ∙ t.received.1.tells.said in
       record {
         answer = received_frame.answer ∙ ap (λ (x : ArrivalSays). let r : Result ArrivalSays ArriveRefusal = Ok x in r) (sym same);
         after = received_frame.after;
       }
 
   -- what is to be sent
-  pub received_to_send : (out : List Outgoing) → out ≡ sent_by (received_says taken.received []) → HasTakenToSend (member_of old) (member_of new) bytes out
+  pub received_to_send : (out : List Outgoing) → out ≡ sent_by (received_says taken.0.received []) → HasTakenToSend (member_of old) (member_of new) bytes out
   unfolding received_frame
   received_to_send out is = record {
     says = t.received.1.says;
     answer = received_frame.answer;
-    sends = is ∙ same_sent taken.received (deliveries_in t.received.1.says) ∙ ap sent_by t.received.1.tells.said;
+    sends = is ∙ same_sent taken.0.received (deliveries_in t.received.1.says) ∙ ap sent_by t.received.1.tells.said;
     after = received_frame.after;
   }
 
-  pub received_entry : wanted.entry ≡ true → entry_by (member_of old) (ToTake bytes) ≡ option_map entry_fields taken.noted
-  received_entry want = of_member old h (λ m. entry_by m (ToTake bytes) ≡ option_map entry_fields taken.noted) (t.noted want)
+  pub received_entry : wants_entry wanted ≡ true → entry_by (member_of old) (ToTake bytes) ≡ option_map entry_fields taken.1
+  received_entry want = of_member old h (λ m. entry_by m (ToTake bytes) ≡ option_map entry_fields taken.1) (t.noted want)
 
 -- ---- ticks
 
@@ -213,5 +214,5 @@ module _ (wanted : Wanted) (old new : Kept) (told : Told) (h : KeepsHistory old)
     after = after_call ToTick old new h t.goes_on;
   }
 
-  pub told_entry : wanted.entry ≡ true → entry_by (member_of old) ToTick ≡ option_map entry_fields told.noted
+  pub told_entry : wants_entry wanted ≡ true → entry_by (member_of old) ToTick ≡ option_map entry_fields told.noted
   told_entry want = of_member old h (λ m. entry_by m ToTick ≡ option_map entry_fields told.noted) (t.noted want)

@@ -1,18 +1,20 @@
 -- What the calls do to a member with its history, or with none.
-use Rattle.std.specs.Prelude.{◌≡◌, ℕ, Bool, true, List, [], ◌++◌, length, Some, option_map, Ok, if◌then◌else◌}
+use Rattle.std.specs.Prelude.{◌≡◌, ℕ, Bool, true, false, List, [], ◌++◌, length, map, Option, Some, None, option_map, Ok, if◌then◌else◌}
 use Rattle.cb_frames.specs.Fields.{Load, CastFrame}
 use Rattle.cb_frames.specs.Text.{text_of}
 use Rattle.cb_history.specs.declared.answer.Outgoing.{Outgoing}
+use Rattle.cb_history.specs.declared.history.Entry.{Entry}
 use Rattle.cb_history.specs.Answers.{ArrivalSays, burst_done}
-use Rattle.cb_history.specs.Facts.{EntryFields, entry_fields}
+use Rattle.cb_history.specs.Facts.{CastEntry, EntryFields, entry_fields}
 use Rattle.cb_history.specs.Group.{Parameters}
-use Rattle.cb_history.specs.Legal.{Call, ToCast, ToTake, ToTick}
+use Rattle.cb_history.specs.Legal.{Call, ToCast, ToTake, ToTick, and_entry}
 use Rattle.cb_history.specs.State.{answer_to_arrival, answer_to_cast, answer_to_tick, entry_by, events_in, facts_in, next_in, state_after}
 use Rattle.cb_member.specs.declared.received.Received.{Received}
 use Rattle.cb_member.specs.declared.wanted.Taken.{Taken}
 use Rattle.cb_member.specs.declared.wanted.Made.{Made}
 use Rattle.cb_member.specs.declared.wanted.Told.{Told}
 use Rattle.cb_member.specs.declared.wanted.Wanted.{Wanted}
+use Rattle.cb_member.specs.Asked.{wants_answer, wants_entry}
 use Rattle.cb_member.specs.CoreCalls.{done_at}
 use Rattle.cb_member.specs.Kept.{IsKept, Kept, OnEach, Stands, entries_of, events_of, gone, limit_for, limit_of, seat_of, state_with}
 use Rattle.cb_member.specs.Received.{count_said, deliveries_in, received_says}
@@ -44,8 +46,8 @@ pub record HasCast (old new : Kept) (load : Load) (frame : List ℕ) : Type 0 wh
 pub record HasMade (wanted : Wanted) (old new : Kept) (load : Load) (made : Made) : Type 0 where
   pub kept : IsKept new
   pub cast : HasCast old new load made.out
-  pub told : wanted.answer ≡ true → (time : List ℕ) × (made.time ≡ Some time) × OnEach old (λ m. done_at made time ≡ burst_done m.seat (facts_in m) (next_in m load))
-  pub noted : wanted.entry ≡ true → OnEach old (λ m. entry_by m (ToCast load) ≡ option_map entry_fields made.noted)
+  pub told : wants_answer wanted ≡ true → (time : List ℕ) × (made.time ≡ Some time) × OnEach old (λ m. done_at made time ≡ burst_done m.seat (facts_in m) (next_in m load))
+  pub noted : wants_entry wanted ≡ true → OnEach old (λ m. entry_by m (ToCast load) ≡ option_map (λ frame. CastEntry frame) made.noted)
 
 -- what the member says is what the definition does
 pub record Tells (r : Received) (says : ArrivalSays) : Type 0 where
@@ -67,12 +69,22 @@ behind before after = record after { entries = gone after before.entries ++ afte
 abbrev pub HasReceivedBehind : Bool → Kept → Kept → List ℕ → Received → Type 0
 HasReceivedBehind stays old new bytes r = (after : Kept) × HasReceived old after bytes r × (new ≡ (if stays then behind old after else after))
 
+-- where an entry, if any, joined these entries twice, it is there once, and is handed out; where it joined once, nothing is
+pub record IsCopy (twice : Bool) (es : List EntryFields) (entry : Option EntryFields) (new : List Entry) (copy : Option Entry) : Type 0 where
+  pub left : map entry_fields new ≡ and_entry es entry
+  pub handed : twice ≡ true → option_map entry_fields copy ≡ entry
+  pub none : twice ≡ false → copy ≡ None
+
+abbrev pub HasCopy : Bool → ℕ → List Entry → List Entry → Option Entry → Type 0
+HasCopy twice before old new copy = (es : List EntryFields) (entry : Option EntryFields) → before ≡ length es
+    → map entry_fields old ≡ (if twice then and_entry (and_entry es entry) entry else and_entry es entry) → IsCopy twice es entry new copy
+
 -- and the copies that are wanted are there
-pub record HasReceivedWanting (wanted : Wanted) (stays : Bool) (old new : Kept) (bytes : List ℕ) (taken : Taken) : Type 0 where
+pub record HasReceivedWanting (wanted : Wanted) (stays : Bool) (old new : Kept) (bytes : List ℕ) (taken : Taken × Option Entry) : Type 0 where
   pub kept : IsKept new
-  pub received : HasReceivedBehind stays old new bytes taken.received
-  pub deliveries : wanted.answer ≡ true → taken.deliveries.items ≡ deliveries_in received.1.says
-  pub noted : wanted.entry ≡ true → OnEach old (λ m. entry_by m (ToTake bytes) ≡ option_map entry_fields taken.noted)
+  pub received : HasReceivedBehind stays old new bytes taken.0.received
+  pub deliveries : wants_answer wanted ≡ true → taken.0.deliveries.items ≡ deliveries_in received.1.says
+  pub noted : wants_entry wanted ≡ true → OnEach old (λ m. entry_by m (ToTake bytes) ≡ option_map entry_fields taken.1)
 
 -- the status was sent, and what is missing was asked for: these are the frames
 pub record HasTicked (old new : Kept) (frames : List Outgoing) : Type 0 where
@@ -85,4 +97,4 @@ pub record HasTold (wanted : Wanted) (old new : Kept) (told : Told) : Type 0 whe
   pub kept : IsKept new
   pub answer : OnEach old (λ m. answer_to_tick m ≡ Ok (told.ticked.entered, told.ticked.out.items))
   pub goes_on : GoesOn ToTick old new
-  pub noted : wanted.entry ≡ true → OnEach old (λ m. entry_by m ToTick ≡ option_map entry_fields told.noted)
+  pub noted : wants_entry wanted ≡ true → OnEach old (λ m. entry_by m ToTick ≡ option_map entry_fields told.noted)

@@ -1,5 +1,6 @@
 pub mod Answering
 pub mod Arriving
+pub mod Asked
 pub mod Casting
 pub mod CoreCalls
 pub mod CoreMember

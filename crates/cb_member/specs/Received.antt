@@ -1,15 +1,19 @@
 -- What is answered to received bytes, and what is made for that before anything changes.
-use Rattle.std.specs.Prelude.{◌≡◌, ℕ, ◌≤◌, Bool, true, List, [], length, map, Option, Some, Ok}
+use Rattle.std.specs.Prelude.{◌≡◌, ℕ, ◌≤◌, Bool, true, false, List, [], ◌∷◌, ◌++◌, length, map, Some, Ok}
 use Rattle.cb_times.specs.declared.name.Name.{Name}
 use Rattle.cb_delay.specs.declared.message.Event.{Event}
 use Rattle.cb_delay.specs.declared.message.Message.{Message}
 use Rattle.cb_history.specs.declared.answer.Outgoing.{Outgoing}
 use Rattle.cb_history.specs.Answers.{ArrivalSays, Accepted, Repeat}
+use Rattle.cb_history.specs.Facts.{ArriveEntry, entry_fields}
 use Rattle.cb_history.specs.Legal.{ToTake}
 use Rattle.cb_history.specs.State.{MemberState, answer_to_arrival, state_after}
-use Rattle.cb_member.specs.declared.named.Named.{Named}
+use Rattle.cb_history.specs.declared.history.Entry.{Entry}
+use Rattle.cb_history.specs.declared.history.Entry.TheVariants as entries
+use Rattle.cb_member.specs.declared.wanted.Asked.{Asked}
 use Rattle.cb_member.specs.declared.received.Received.{Received}
 use Rattle.cb_member.specs.declared.received.Received.TheVariants as received
+use Rattle.cb_member.specs.Asked.{joins_entries, joins_twice, with_entry}
 use Rattle.cb_member.specs.Knowledge.{delivered_by}
 
 -- ---- what is answered
@@ -52,18 +56,38 @@ pub record HasTakenToSend (old new : MemberState) (bytes : List ℕ) (out : List
   pub sends : out ≡ sent_by says
   pub after : new ≡ state_after old (ToTake bytes)
 
--- ---- an entry that is made
+-- ---- entries that are made
 
--- the frame, without names, with room for so many
-pub record HasRoomForNames (bytes : List ℕ) (room : ℕ) (named : Named) : Type 0 where
-  pub frame : named.frame ≡ bytes
-  pub empty : named.delivered.items ≡ []
-  pub room_is : room ≤ named.delivered.capacity
+-- an entry of these bytes without names, with room for so many
+abbrev pub IsOpen : List ℕ → ℕ → Entry → Type 0
+IsOpen bytes room (entries.Arrive frame delivered) = (frame ≡ bytes) × (delivered.items ≡ []) × (room ≤ delivered.capacity)
+IsOpen bytes room (entries.Cast frame) = true ≡ false
+IsOpen bytes room (entries.Tick status) = true ≡ false
 
-abbrev pub HasRoomForWanted : List ℕ → ℕ → Option Named → Type 0
-HasRoomForWanted bytes room named = (n : Named) → named ≡ Some n → HasRoomForNames bytes room n
+-- as many of them as are asked for stand behind these
+abbrev pub AreOpen : Asked → List ℕ → ℕ → List Entry → Type 0
+AreOpen asked bytes room [] = joins_entries asked ≡ false
+AreOpen asked bytes room (e ∷ []) = (joins_entries asked ≡ true) × (joins_twice asked ≡ false) × IsOpen bytes room e
+AreOpen asked bytes room (e ∷ f ∷ []) = (joins_entries asked ≡ true) × (joins_twice asked ≡ true) × IsOpen bytes room e × IsOpen bytes room f
+AreOpen asked bytes room (e ∷ f ∷ g ∷ es) = true ≡ false
 
--- it is made where it is wanted
-pub record IsMadeIf (wanted : Bool) (bytes : List ℕ) (room : ℕ) (named : Option Named) : Type 0 where
-  pub made : wanted ≡ true → (n : Named) × (named ≡ Some n)
-  pub fits : HasRoomForWanted bytes room named
+pub record HasOpened (asked : Asked) (bytes : List ℕ) (room : ℕ) (started entries : List Entry) : Type 0 where
+  pub opened : List Entry
+  pub behind : entries ≡ started ++ opened
+  pub are : AreOpen asked bytes room opened
+
+-- this one stands behind the first so many
+pub record IsOpenAt (place : ℕ) (bytes : List ℕ) (room : ℕ) (before after : List Entry) (entry : Entry) (entries : List Entry) : Type 0 where
+  pub at : entries ≡ before ++ entry ∷ after
+  pub place_is : length before ≡ place
+  pub is : IsOpen bytes room entry
+
+-- and has got these names
+pub record HasNamedAt (bytes : List ℕ) (names : List Name) (before after entries : List Entry) : Type 0 where
+  pub named : Entry
+  pub fields : entry_fields named ≡ ArriveEntry bytes names
+  pub at : entries ≡ before ++ named ∷ after
+
+-- so all of them have
+abbrev pub HasNamed : Asked → List ℕ → List Name → List Entry → List Entry → Type 0
+HasNamed asked bytes names started entries = map entry_fields entries ≡ with_entry asked (map entry_fields started) (Some (ArriveEntry bytes names))

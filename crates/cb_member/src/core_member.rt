@@ -24,11 +24,10 @@ pub mod arriving;
 mod casting;
 mod ticking;
 
-use crate::core_member::arriving::{Asked, Noting};
 use crate::readings::Delayed;
 use crate::received::Received;
 use crate::state::State;
-use crate::wanted::{Made, Taken, Told, Wanted};
+use crate::wanted::{Asked, Made, Taken, Told, Wanted};
 use bytes::Bytes;
 use cb_delay::Event;
 use cb_frames::Range;
@@ -250,8 +249,8 @@ impl CoreMember {
         ensures call { IsCall (Cast (One payload.now) result
             (added events.old.items events.new.items)) self.old self.new }
     {
-        let (made, entry) = self.cast_wanting(payload, Wanted::NOTHING, events)?;
-        Ok((made.frame(), entry))
+        let (made, entry) = self.cast_wanting(payload, Wanted::Nothing, events)?;
+        Ok((made.frame(), Entry::Cast { frame: entry }))
     }
 
     /// Casts a message of each payload, all in one frame: 1 to 32 payloads of up to 1,024 bytes
@@ -283,8 +282,8 @@ impl CoreMember {
         ensures call { IsCall (Burst (many_of payloads.now) result
             (added events.old.items events.new.items)) self.old self.new }
     {
-        let (made, entry) = self.cast_burst_wanting(payloads, Wanted::NOTHING, events)?;
-        Ok((made.frame(), entry))
+        let (made, entry) = self.cast_burst_wanting(payloads, Wanted::Nothing, events)?;
+        Ok((made.frame(), Entry::Cast { frame: entry }))
     }
 
     /// Casts a payload as `cast` does, with the copies that are wanted.
@@ -293,7 +292,7 @@ impl CoreMember {
         payload: &[u8],
         wanted: Wanted,
         events: &mut Vec<Event>,
-    ) -> Result<(Made, Entry), CastRefusal>
+    ) -> Result<(Made, Bytes), CastRefusal>
         ensures { AnswersCastInto wanted (One payload.now) self.old self.new events.old.items
             events.new.items result }
     {
@@ -306,7 +305,7 @@ impl CoreMember {
         payloads: &[&[u8]],
         wanted: Wanted,
         events: &mut Vec<Event>,
-    ) -> Result<(Made, Entry), BurstRefusal>
+    ) -> Result<(Made, Bytes), BurstRefusal>
         ensures { AnswersBurstInto wanted (many_of payloads.now) self.old self.new
             events.old.items events.new.items result }
     {
@@ -356,12 +355,8 @@ impl CoreMember {
         ensures call { IsCall
             (Take bytes.now result (joined events.old.items events.new.items)) self.old self.new }
     {
-        let asked = Asked {
-            noting: Noting::Unwanted,
-            wanted: Wanted::NOTHING,
-        };
-        let (taken, entry) = self.receive_wanting(bytes, asked, events)?;
-        drop(entry);
+        let mut none = Vec::new(self.state.alloc);
+        let taken = self.receive_wanting(bytes, Asked::Nothing, events, &mut none)?;
         Ok(taken.received())
     }
 
@@ -385,27 +380,24 @@ impl CoreMember {
         ensures same { OnErr result (self.new ≡ self.old) }
         ensures same_events { OnErr result (events.new.items ≡ events.old.items) }
     {
-        let asked = Asked {
-            noting: Noting::Wanted,
-            wanted: Wanted::NOTHING,
-        };
-        let (taken, entry) = self.receive_wanting(bytes, asked, events)?;
-        Ok((taken.received(), entry))
+        let mut entries = Vec::new(self.state.alloc);
+        let taken = self.receive_wanting(bytes, Asked::Entry, events, &mut entries)?;
+        Ok((taken.received(), entries.pop()))
     }
 
-    /// Takes received bytes as `receive_noted` does, with the copies that are wanted, for a caller
-    /// that may have no room for an entry. Without room, bytes of which a history would have an
-    /// entry are refused as `HistoryFull`, in its place in the order of `ArriveRefusal`.
+    /// Takes received bytes as `receive` does, with what is asked for. Where no entry may be added, bytes of which a history would have one
+    /// are refused as `HistoryFull`, in its place in the order of `ArriveRefusal`.
     pub(crate) fn receive_wanting(
         &mut self,
         bytes: &Bytes,
         asked: Asked,
         events: &mut Vec<Event>,
-    ) -> Result<(Taken, Option<Entry>), ArriveRefusal>
+        entries: &mut Vec<Entry>,
+    ) -> Result<Taken, ArriveRefusal>
         ensures { AnswersArrivalOnEach asked bytes.now self.old self.new events.old.items
-            events.new.items result }
+            events.new.items entries.old.items entries.new.items result }
     {
-        self.state.receive_unlimited(bytes, asked, events)
+        self.state.receive_unlimited(bytes, asked, events, entries)
     }
 
     /// Reports the status to all others, and asks each for what is missing of it.
@@ -436,7 +428,7 @@ impl CoreMember {
         ensures no_limit { result ≢ Err TickRefusal.HistoryFull }
         ensures same { OnErr result (self.new ≡ self.old) }
     {
-        let (told, entry) = self.tick_wanting(Wanted::NOTHING)?;
+        let (told, entry) = self.tick_wanting(Wanted::Nothing)?;
         Ok((told.ticked(), entry))
     }
 

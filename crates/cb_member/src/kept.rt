@@ -14,13 +14,12 @@ ghost use Rattle.cb_member.specs.Readings.{acknowledged_by_in, delivered_of_in, 
 ghost use Rattle.cb_member.specs.CoreCalls.{MayCast};
 ghost use Rattle.cb_member.specs.Helping.{answer_to_help_among, may_ask_among, RefusesHelpAmong};
 ghost use Rattle.cb_member.specs.Kept.{IsKept, OnEach, seat_of, events_of, entries_of, kept_of};
-ghost use Rattle.cb_member.specs.KeptCalls.{HasCast, HasMade, HasReceivedBehind, HasReceivedWanting, HasTicked, HasTold, IsNew};
+ghost use Rattle.cb_member.specs.KeptCalls.{HasCast, HasCopy, HasMade, HasReceivedBehind, HasReceivedWanting, HasTicked, HasTold, IsNew};
 
 use crate::core_member::CoreMember;
-use crate::core_member::arriving::{Asked, Noting};
 use crate::readings::Delayed;
 use crate::received::Received;
-use crate::wanted::{Made, Taken, Told, Wanted};
+use crate::wanted::{Asked, Made, Taken, Told, Wanted};
 use bytes::Bytes;
 use cb_delay::Event;
 use cb_frames::Range;
@@ -110,7 +109,7 @@ impl Kept {
             RefusesExactly m (One payload.now) refusal)) }
         ensures same { OnErr result (self.new ≡ self.old) }
     {
-        match self.cast_wanting(payload, Wanted::NOTHING) {
+        match self.cast_wanting(payload, Wanted::Nothing) {
             Ok(made) => Ok(made.frame()),
             Err(refusal) => Err(refusal),
         }
@@ -136,7 +135,7 @@ impl Kept {
         let (events, entries) = (self.events.len(), self.entries.len());
         match self.core.cast_wanting(payload, wanted, &mut self.events) {
             Ok((made, entry)) => {
-                enter(&mut self.entries, Some(entry));
+                enter(&mut self.entries, Some(Entry::Cast { frame: entry }));
                 forget(self.limit, &mut self.entries, entries);
                 forget(self.limit, &mut self.events, events);
                 Ok(made)
@@ -152,7 +151,7 @@ impl Kept {
             RefusesBurstExactly m (many_of payloads.now) refusal)) }
         ensures same { OnErr result (self.new ≡ self.old) }
     {
-        match self.cast_burst_wanting(payloads, Wanted::NOTHING) {
+        match self.cast_burst_wanting(payloads, Wanted::Nothing) {
             Ok(made) => Ok(made.frame()),
             Err(refusal) => Err(refusal),
         }
@@ -181,7 +180,7 @@ impl Kept {
             .cast_burst_wanting(payloads, wanted, &mut self.events)
         {
             Ok((made, entry)) => {
-                enter(&mut self.entries, Some(entry));
+                enter(&mut self.entries, Some(Entry::Cast { frame: entry }));
                 forget(self.limit, &mut self.entries, entries);
                 forget(self.limit, &mut self.events, events);
                 Ok(made)
@@ -198,38 +197,40 @@ impl Kept {
             RefusesArrival m bytes.now refusal)) }
         ensures same { OnErr result (self.new ≡ self.old) }
     {
-        match self.receive_wanting(bytes, stays, Wanted::NOTHING) {
-            Ok(taken) => Ok(taken.received()),
+        match self.receive_wanting(bytes, stays, Wanted::Nothing) {
+            Ok((taken, _none)) => Ok(taken.received()),
             Err(refusal) => Err(refusal),
         }
     }
 
-    /// Takes received bytes as `receive` does, with the copies that are wanted.
+    /// Takes received bytes as `receive` does, with the copies that are wanted. It is built into its callers, of which each wants others.
+    #[inline(always)]
     pub(crate) fn receive_wanting(
         &mut self,
         bytes: &Bytes,
         stays: bool,
         wanted: Wanted,
-    ) -> Result<Taken, ArriveRefusal>
+    ) -> Result<(Taken, Option<Entry>), ArriveRefusal>
         ensures done { IfOk result (HasReceivedWanting wanted stays self.old self.new bytes.now) }
         ensures refused { IfErr result (λ refusal. OnEach self.old (λ m.
             RefusesArrival m bytes.now refusal)) }
         ensures same { OnErr result (self.new ≡ self.old) }
     {
-        let full = is_full(self.limit, &self.entries);
-        let may_enter = has_room(full, &mut self.entries);
+        let asked = Asked::within(is_full(self.limit, &self.entries), wanted);
         let events = earlier(stays, &self.events);
         let entries = earlier(stays, &self.entries);
-        let noting = Noting::within(may_enter);
-        let asked = Asked { noting, wanted };
-        match self.core.receive_wanting(bytes, asked, &mut self.events) {
-            Ok((taken, entry)) => {
-                enter(&mut self.entries, entry);
+        let count = self.entries.len();
+        match self
+            .core
+            .receive_wanting(bytes, asked, &mut self.events, &mut self.entries)
+        {
+            Ok(taken) => {
+                let copy = copy_of(asked.joins_twice(), count, &mut self.entries);
                 forget(self.limit, &mut self.entries, entries);
                 forget(self.limit, &mut self.events, events);
-                Ok(taken)
+                Ok((taken, copy))
             }
-            Err(refusal) => Err(refused(full, refusal)),
+            Err(refusal) => Err(refusal),
         }
     }
 
@@ -239,7 +240,7 @@ impl Kept {
         ensures refused { IfErr result (λ refusal. OnEach self.old (λ m. RefusesTick m refusal)) }
         ensures same { OnErr result (self.new ≡ self.old) }
     {
-        match self.tick_wanting(Wanted::NOTHING) {
+        match self.tick_wanting(Wanted::Nothing) {
             Ok(told) => Ok(told.ticked().out),
             Err(refusal) => Err(refusal),
         }
@@ -425,29 +426,15 @@ fn burst_refusal_or(core: &CoreMember, payloads: &[&[u8]], other: BurstRefusal) 
     }
 }
 
-/// Whether an entry can be added: the history is not full, and there is room for one more.
-fn has_room(full: bool, entries: &mut Vec<Entry>) -> bool
-    ensures items { entries.new.items ≡ entries.old.items }
-    ensures below { result ≡ true → full ≡ false }
-    ensures room { result ≡ true → vec_len entries.new + 1 ≤ vec_capacity entries.new }
+/// Takes the last entry away, where one joined twice: before that there were this many.
+#[inline(always)]
+fn copy_of(twice: bool, before: usize, entries: &mut Vec<Entry>) -> Option<Entry>
+    ensures { HasCopy twice before entries.old.items entries.new.items result }
 {
-    !full && make_room(entries, 1).is_ok()
-}
-
-/// Where an entry was refused and the history is not full, there was no memory for the entry.
-fn refused(full: bool, refusal: ArriveRefusal) -> ArriveRefusal
-    ensures { ((result ≡ refusal) × (refusal ≡ ArriveRefusal.HistoryFull → full ≡ true))
-        ⊎ ((refusal ≡ ArriveRefusal.HistoryFull) × (result ≡ ArriveRefusal.NoMemory)) }
-{
-    match refusal {
-        ArriveRefusal::HistoryFull => {
-            if full {
-                ArriveRefusal::HistoryFull
-            } else {
-                ArriveRefusal::NoMemory
-            }
-        }
-        other => other,
+    if twice && entries.len() > before {
+        entries.pop()
+    } else {
+        None
     }
 }
 

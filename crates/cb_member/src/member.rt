@@ -193,7 +193,7 @@ impl Member {
         ensures refused { IfErr result (RefusesExactly self.old (One payload.now)) }
         ensures same { OnErr result (self.new ≡ self.old) }
     {
-        let made = self.kept.cast_wanting(payload, Wanted::ANSWER)?;
+        let made = self.kept.cast_wanting(payload, Wanted::Answer)?;
         Ok(made.cast_done())
     }
 
@@ -205,7 +205,7 @@ impl Member {
         ensures refused { IfErr result (RefusesExactly self.old (One payload.now)) }
         ensures same { OnErr result (self.new ≡ self.old) }
     {
-        let mut made = self.kept.cast_wanting(payload, Wanted::ALL)?;
+        let mut made = self.kept.cast_wanting(payload, Wanted::Both)?;
         let noted = made.noted();
         Ok((made.cast_done(), noted))
     }
@@ -220,7 +220,7 @@ impl Member {
         ensures refused { IfErr result (RefusesBurstExactly self.old (many_of payloads.now)) }
         ensures same { OnErr result (self.new ≡ self.old) }
     {
-        let made = self.kept.cast_burst_wanting(payloads, Wanted::ANSWER)?;
+        let made = self.kept.cast_burst_wanting(payloads, Wanted::Answer)?;
         Ok(made.burst_done())
     }
 
@@ -236,7 +236,7 @@ impl Member {
         ensures refused { IfErr result (RefusesBurstExactly self.old (many_of payloads.now)) }
         ensures same { OnErr result (self.new ≡ self.old) }
     {
-        let mut made = self.kept.cast_burst_wanting(payloads, Wanted::ALL)?;
+        let mut made = self.kept.cast_burst_wanting(payloads, Wanted::Both)?;
         let noted = made.noted();
         Ok((made.burst_done(), noted))
     }
@@ -251,7 +251,7 @@ impl Member {
         ensures refused { IfErr result (RefusesArrival self.old bytes.now) }
         ensures same { OnErr result (self.new ≡ self.old) }
     {
-        let taken = self.kept.receive_wanting(bytes, false, Wanted::NOTHING)?;
+        let (taken, _none) = self.kept.receive_wanting(bytes, false, Wanted::Nothing)?;
         Ok(taken.received())
     }
 
@@ -267,8 +267,8 @@ impl Member {
         ensures refused { IfErr result (RefusesArrival self.old bytes.now) }
         ensures same { OnErr result (self.new ≡ self.old) }
     {
-        let taken = self.kept.receive_wanting(bytes, false, Wanted::ENTRY)?;
-        Ok(taken.sent(self.kept.alloc()))
+        let (taken, noted) = self.kept.receive_wanting(bytes, false, Wanted::Entry)?;
+        Ok((taken.received().out(self.kept.alloc()), noted))
     }
 
     /// Takes received bytes as `receive` does, and hands out copies of what they deliver, which are made before anything changes.
@@ -277,10 +277,8 @@ impl Member {
         ensures refused { IfErr result (RefusesArrival self.old bytes.now) }
         ensures same { OnErr result (self.new ≡ self.old) }
     {
-        let taken = self.kept.receive_wanting(bytes, false, Wanted::ANSWER)?;
-        let (arrival, noted) = taken.arrival();
-        drop(noted);
-        Ok(arrival)
+        let (taken, _none) = self.kept.receive_wanting(bytes, false, Wanted::Answer)?;
+        Ok(taken.arrival())
     }
 
     /// Takes received bytes as `arrive` does, and hands out a copy of the entry, where one was added.
@@ -291,8 +289,8 @@ impl Member {
         ensures refused { IfErr result (RefusesArrival self.old bytes.now) }
         ensures same { OnErr result (self.new ≡ self.old) }
     {
-        let taken = self.kept.receive_wanting(bytes, false, Wanted::ALL)?;
-        Ok(taken.arrival())
+        let (taken, noted) = self.kept.receive_wanting(bytes, false, Wanted::Both)?;
+        Ok((taken.arrival(), noted))
     }
 
     /// Reports the status to all others, and asks each for what is missing of it.
@@ -304,7 +302,7 @@ impl Member {
         ensures refused { IfErr result (RefusesTick self.old) }
         ensures same { OnErr result (self.new ≡ self.old) }
     {
-        let told = self.kept.tick_wanting(Wanted::NOTHING)?;
+        let told = self.kept.tick_wanting(Wanted::Nothing)?;
         Ok(told.ticked())
     }
 
@@ -316,7 +314,7 @@ impl Member {
         ensures refused { IfErr result (RefusesTick self.old) }
         ensures same { OnErr result (self.new ≡ self.old) }
     {
-        let told = self.kept.tick_wanting(Wanted::ENTRY)?;
+        let told = self.kept.tick_wanting(Wanted::Entry)?;
         Ok((told.ticked, told.noted))
     }
 

@@ -62,6 +62,7 @@ impl State {
     }
 
     /// Takes the unit on its course, and keeps its frame. What is delivered joins the events, which have room for it; this takes no memory.
+    #[inline(always)]
     pub fn take_cast(&mut self, unit: Unit, frame: Bytes, course: Course, events: &mut Vec<Event>)
         requires can { CanGo (unit_fields unit) course self.old }
         requires frame { frame ≡ text_of (CastFrame (unit_fields unit)) }
@@ -81,6 +82,7 @@ impl State {
     }
 
     /// Keeps and delivers, and learns nothing of it yet.
+    #[inline(always)]
     pub fn go(&mut self, unit: Unit, course: Course, events: &mut Vec<Event>)
         requires can { CanGo (unit_fields unit) course self.old }
         requires room { vec_len events.old + most course ≤ vec_capacity events.old }
@@ -146,6 +148,7 @@ impl State {
     }
 
     /// It came in order, and others may go with it.
+    #[inline(never)]
     fn lead_on(&mut self, cast: Cast, time: VectorTime, events: &mut Vec<Event>)
         requires can { HasTime (cast_fields cast) time self.old }
         requires room { HasRoomToDeliver (cast_fields cast) self.old events.old }
@@ -156,6 +159,7 @@ impl State {
     }
 
     /// Others may go with it.
+    #[inline(never)]
     fn let_go(&mut self, unit: Unit, spares: Spares, events: &mut Vec<Event>)
         requires can { CanTakeIn (unit_fields unit) (times_in spares) self.old }
         requires room { HasRoomToDeliver (unit_fields unit) self.old events.old }

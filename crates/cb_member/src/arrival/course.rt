@@ -98,6 +98,7 @@ impl State {
             && changes_are_reached(cast, time.as_slice(), counts.as_slice())
     }
 
+    #[inline(never)]
     fn course_of_others(&mut self, unit: &Unit) -> Result<Course, NoMemory>
         requires { CanFollow (unit_fields unit.now) self.old }
         ensures same { IsAlike self.old self.new }

@@ -1,6 +1,6 @@
 //! Received bytes at a core: what is delivered moves into the caller's events, so nothing is copied.
 
-ghost use Rattle.std.specs.Prelude.{◌≡◌, ◌≤◌, ◌+◌, ℕ, List, true, IfOk, IfErr, Ok, Some, [], length, option_map};
+ghost use Rattle.std.specs.Prelude.{◌≡◌, ◌≤◌, ◌+◌, ℕ, List, true, IfOk, IfErr, Ok, []};
 ghost use Rattle.std.specs.Vec.{vec_capacity, vec_len};
 ghost use Rattle.cb_frames.specs.Fields.{fields_of, help_fields, request_fields, status_fields, unit_fields, CastFrame, HelpFrame, RequestFrame, StatusFrame};
 ghost use Rattle.cb_frames.specs.Laws.{IsBytes};
@@ -8,24 +8,23 @@ ghost use Rattle.cb_history.specs.Read.{frame_read};
 ghost use Rattle.cb_delay.specs.declared.message.Event.{Event as Events};
 ghost use Rattle.cb_delay.specs.declared.message.Message.{Message as Messages};
 ghost use Rattle.cb_history.specs.Answers.{Accepted};
-ghost use Rattle.cb_history.specs.Facts.{ArriveEntry, entry_fields};
-ghost use Rattle.cb_member.specs.declared.core_member.arriving.Asked.{Asked as Asks};
+ghost use Rattle.cb_history.specs.declared.history.Entry.{Entry as Entries};
+ghost use Rattle.cb_member.specs.declared.wanted.Asked.{Asked as Asks};
 ghost use Rattle.cb_member.specs.Answering.{RefusesBytes};
 ghost use Rattle.cb_member.specs.Arriving.{IsNew};
-ghost use Rattle.cb_member.specs.CoreCalls.{AnswersArrivalOnEach, CanCome, Comes, IsComing, IsUnchanged, is_told, may_add};
+ghost use Rattle.cb_member.specs.CoreCalls.{AnswersArrivalOnEach, CanCome, Comes, IsComing, IsUnchanged};
 ghost use Rattle.cb_member.specs.CoreMember.{IsCore, core_of};
 ghost use Rattle.cb_member.specs.Course.{most};
-ghost use Rattle.cb_member.specs.Received.{HasRoomForNames, count_said, names_of, received_says};
-ghost use Rattle.cb_member.specs.declared.named.Named.{Named as Names};
+ghost use Rattle.cb_member.specs.Received.{HasOpened, count_said, received_says};
 
 use crate::arrival::cast::Judged;
 use crate::arrival::course::Course;
 use crate::arrival::status;
-use crate::named::{Named, heard_in};
+use crate::named::{name_entries, open_entries};
 use crate::received::Received;
 use crate::state::State;
 use crate::text::another;
-use crate::wanted::{Taken, Wanted};
+use crate::wanted::{Asked, Taken};
 use bytes::Bytes;
 use cb_delay::{Event, Message};
 use cb_frames::{
@@ -35,17 +34,6 @@ use cb_history::{ArriveRefusal, Entry, Outgoing};
 use cb_times::{NoMemory, make_room};
 use std::alloc::Global;
 
-/// What becomes of the entry that a history would have of received bytes.
-#[derive(Clone, Copy, Drop)]
-pub enum Noting {
-    /// It is not wanted.
-    Unwanted,
-    /// It is handed out.
-    Wanted,
-    /// There is no room for it: bytes of which there would be one are refused.
-    Refused,
-}
-
 /// A cast or a burst that can be taken, and what is made for it before anything changes.
 #[derive(Drop)]
 pub struct Coming {
@@ -53,57 +41,36 @@ pub struct Coming {
     /// Its frame, to be handed on.
     pub frame: Bytes,
     pub course: Course,
-    /// Its entry, where that is not unwanted.
-    pub entry: Option<Named>,
-    /// What the caller wants of it.
+    /// Copies of what it delivers, where they are asked for.
     pub deliveries: Vec<Message>,
-    pub noted: Option<Named>,
-}
-
-/// What is asked for of received bytes, besides what they do.
-#[derive(Clone, Copy, Drop)]
-pub struct Asked {
-    pub noting: Noting,
-    pub wanted: Wanted,
-}
-
-impl Noting {
-    /// It is handed out, where it may be added.
-    pub fn within(may_enter: bool) -> Noting
-        ensures told { is_told result ≡ true }
-        ensures may_add { may_add result ≡ may_enter }
-    {
-        if may_enter {
-            Noting::Wanted
-        } else {
-            Noting::Refused
-        }
-    }
 }
 
 impl State {
-    /// Takes received bytes: delivers what they make ready, which joins the events, or answers a request. Tells what they did, and the
-    /// entry that a history would have of them.
+    /// Takes received bytes: delivers what they make ready, which joins the events, or answers a request. Tells what they did; the entry
+    /// that a history has of them joins the entries, where that is asked for.
     pub fn receive_unlimited(
         &mut self,
         bytes: &Bytes,
         asked: Asked,
         events: &mut Vec<Event>,
-    ) -> Result<(Taken, Option<Entry>), ArriveRefusal>
+        entries: &mut Vec<Entry>,
+    ) -> Result<Taken, ArriveRefusal>
         requires { IsCore (core_of self.old) }
         ensures { AnswersArrivalOnEach asked bytes.now (core_of self.old) (core_of self.new)
-            events.old.items events.new.items result }
+            events.old.items events.new.items entries.old.items entries.new.items result }
     {
         // one call for both, so that it is compiled in place
         let unit = match read(self.alloc, bytes) {
             Ok(Frame::Cast(cast)) => Unit::One(cast),
             Ok(Frame::Burst(burst)) => Unit::Many(burst),
-            Ok(Frame::Status(status)) => return self.receive_status(bytes, &status, asked),
+            Ok(Frame::Status(status)) => {
+                return self.receive_status(bytes, &status, asked, entries);
+            }
             Ok(Frame::Request(request)) => return self.receive_request(&request),
             Ok(Frame::Help(help)) => return self.receive_help(&help),
             Err(refusal) => return Err(refusal),
         };
-        self.receive_cast(bytes, unit, asked, events)
+        self.receive_cast(bytes, unit, asked, events, entries)
     }
 
     fn receive_cast(
@@ -112,12 +79,13 @@ impl State {
         unit: Unit,
         asked: Asked,
         events: &mut Vec<Event>,
-    ) -> Result<(Taken, Option<Entry>), ArriveRefusal>
+        entries: &mut Vec<Entry>,
+    ) -> Result<Taken, ArriveRefusal>
         requires core { IsCore (core_of self.old) }
         requires bytes { IsBytes bytes.now }
         requires read { frame_read bytes.now ≡ Ok (CastFrame (unit_fields unit)) }
         ensures { AnswersArrivalOnEach asked bytes.now (core_of self.old) (core_of self.new)
-            events.old.items events.new.items result }
+            events.old.items events.new.items entries.old.items entries.new.items result }
     {
         // asked for what is true of every text
         each_is_a_text_or_a_fault();
@@ -126,88 +94,85 @@ impl State {
             Ok(Judged::Taken) => {}
             Err(refusal) => return Err(refusal),
         }
-        let Asked { noting, wanted } = asked;
-        let entered = match noting {
-            Noting::Unwanted => false,
-            Noting::Wanted => true,
-            Noting::Refused => return Err(ArriveRefusal::HistoryFull),
-        };
-        let coming = self.prepare_coming(bytes, unit, entered, wanted)?;
-        make_room(events, coming.course.most())?;
-        Ok(self.enter_coming(coming, events))
+        if !asked.may_add() {
+            return Err(ArriveRefusal::HistoryFull);
+        }
+        let coming = self.prepare_coming(bytes, unit, asked.answer())?;
+        let most = coming.course.most();
+        make_room(events, most)?;
+        open_entries(asked, entries, bytes, most)?;
+        Ok(self.enter_coming(coming, asked, events, entries))
     }
 
-    /// Makes what the unit needs, its entry, and what the caller wants of it. What is known stays as it was.
+    /// Makes what the unit needs, and copies of what it delivers. What is known stays as it was.
     fn prepare_coming(
         &mut self,
         bytes: &Bytes,
         unit: Unit,
-        entered: bool,
-        wanted: Wanted,
+        answer: bool,
     ) -> Result<Coming, NoMemory>
         requires core { IsCore (core_of self.old) }
         requires bytes { IsBytes bytes.now }
         requires read { frame_read bytes.now ≡ Ok (CastFrame (unit_fields unit)) }
         requires new { IsNew (unit_fields unit) self.old }
         ensures same { core_of self.new ≡ core_of self.old }
-        ensures can { IfOk result (CanCome entered wanted bytes.now self.new) }
+        ensures can { IfOk result (CanCome answer bytes.now self.new) }
     {
         let course = self.course_of(&unit)?;
-        let most = course.most();
-        let deliveries = self.foreseen_if(wanted.answer, &unit, &course)?;
+        let deliveries = self.foreseen_if(answer, &unit, &course)?;
         Ok(Coming {
             frame: another(bytes)?,
-            entry: Named::with_room_if(entered, self.alloc, bytes, most)?,
-            noted: Named::with_room_if(wanted.entry, self.alloc, bytes, most)?,
             unit,
             course,
             deliveries,
         })
     }
 
-    /// Takes the unit; what it delivers joins the events. This takes no memory.
-    fn enter_coming(&mut self, coming: Coming, events: &mut Vec<Event>) -> (Taken, Option<Entry>)
+    /// Takes the unit; what it delivers joins the events, and its names the open entries. This takes no memory.
+    #[inline(always)]
+    fn enter_coming(
+        &mut self,
+        coming: Coming,
+        asked: Asked,
+        events: &mut Vec<Event>,
+        entries: &mut Vec<Entry>,
+    ) -> Taken
         requires coming { IsComing coming self.old }
         requires room { vec_len events.old + most coming.course ≤ vec_capacity events.old }
-        ensures { Comes coming self.old self.new events.old.items events.new.items result }
+        requires open { (started : List Entries) × HasOpened asked coming.frame
+            (most coming.course) started entries.old.items }
+        ensures { Comes asked coming self.old self.new events.old.items events.new.items
+            entries.old.items entries.new.items result }
     {
         let Coming {
             unit,
             frame,
             course,
-            entry,
             deliveries,
-            noted,
         } = coming;
         let first = events.len();
         self.take_cast(unit, frame, course, events);
         let delivered = &events[first..];
-        let entry = entry_of(entry, delivered);
-        let noted = entry_of(noted, delivered);
-        let received = Received::Accepted {
-            delivered: events.len() - first,
-            changed: true,
-            out: Vec::new(self.alloc),
-        };
-        let taken = Taken {
-            received,
+        name_entries(asked, entries, delivered);
+        Taken {
+            received: accepted(self.alloc, delivered.len()),
             deliveries,
-            noted,
-        };
-        (taken, entry)
+        }
     }
 
+    #[inline(never)]
     fn receive_status(
         &mut self,
         bytes: &Bytes,
         status: &Status,
         asked: Asked,
-    ) -> Result<(Taken, Option<Entry>), ArriveRefusal>
+        entries: &mut Vec<Entry>,
+    ) -> Result<Taken, ArriveRefusal>
         requires core { IsCore (core_of self.old) }
         requires bytes { IsBytes bytes.now }
         requires read { frame_read bytes.now ≡ Ok (StatusFrame (status_fields status.now)) }
         ensures { (events : List Events) → AnswersArrivalOnEach asked bytes.now (core_of self.old)
-            (core_of self.new) events events result }
+            (core_of self.new) events events entries.old.items entries.new.items result }
     {
         // asked for what is true of every text
         each_is_a_text_or_a_fault();
@@ -219,30 +184,26 @@ impl State {
             Ok(status::Judged::News) => {}
             Err(refusal) => return Err(refusal),
         }
-        let Asked { noting, wanted } = asked;
-        let entered = match noting {
-            Noting::Unwanted => false,
-            Noting::Wanted => true,
-            Noting::Refused => return Err(ArriveRefusal::HistoryFull),
-        };
-        let entry = heard_if(entered, self.alloc, bytes)?;
-        let noted = heard_if(wanted.entry, self.alloc, bytes)?;
+        if !asked.may_add() {
+            return Err(ArriveRefusal::HistoryFull);
+        }
+        // it delivers nothing, so that its entry gets no names
+        open_entries(asked, entries, bytes, 0)?;
         self.hear(status);
-        let taken = Taken {
+        Ok(Taken {
             received: nothing(true, Vec::new(self.alloc)),
             deliveries: Vec::new(self.alloc),
-            noted,
-        };
-        Ok((taken, entry))
+        })
     }
 
     /// What is sent in answer to a request, which changes nothing.
-    fn receive_request(&self, request: &Request) -> Result<(Taken, Option<Entry>), ArriveRefusal>
+    #[inline(never)]
+    fn receive_request(&self, request: &Request) -> Result<Taken, ArriveRefusal>
         requires { IsCore (core_of self.now) }
-        ensures { (asked : Asks) (bytes : List ℕ) (events : List Events)
+        ensures { (asked : Asks) (bytes : List ℕ) (events : List Events) (entries : List Entries)
             → frame_read bytes ≡ Ok (RequestFrame (request_fields request.now))
             → AnswersArrivalOnEach asked bytes (core_of self.now) (core_of self.now) events events
-            result }
+            entries entries result }
     {
         match self.answer_request(request) {
             Ok(out) => Ok(unchanged(self.alloc, nothing(false, out))),
@@ -251,17 +212,31 @@ impl State {
     }
 
     /// What is sent in answer to a help frame, which changes nothing.
-    fn receive_help(&self, help: &Help) -> Result<(Taken, Option<Entry>), ArriveRefusal>
+    #[inline(never)]
+    fn receive_help(&self, help: &Help) -> Result<Taken, ArriveRefusal>
         requires { IsCore (core_of self.now) }
-        ensures { (asked : Asks) (bytes : List ℕ) (events : List Events)
+        ensures { (asked : Asks) (bytes : List ℕ) (events : List Events) (entries : List Entries)
             → frame_read bytes ≡ Ok (HelpFrame (help_fields help.now))
             → AnswersArrivalOnEach asked bytes (core_of self.now) (core_of self.now) events events
-            result }
+            entries entries result }
     {
         match self.answer_help(help) {
             Ok(out) => Ok(unchanged(self.alloc, nothing(false, out))),
             Err(refusal) => Err(refusal),
         }
+    }
+}
+
+/// The answer to a cast or a burst that delivers this many messages.
+fn accepted(alloc: Global, delivered: usize) -> Received
+    ensures says { (messages : List Messages) → received_says result messages
+        ≡ Accepted messages true [] }
+    ensures count { count_said result ≡ delivered }
+{
+    Received::Accepted {
+        delivered,
+        changed: true,
+        out: Vec::new(alloc),
     }
 }
 
@@ -279,38 +254,13 @@ fn nothing(changed: bool, out: Vec<Outgoing>) -> Received
 }
 
 /// The answer to what no history would have an entry of.
-fn unchanged(alloc: Global, received: Received) -> (Taken, Option<Entry>)
+fn unchanged(alloc: Global, received: Received) -> Taken
     ensures { IsUnchanged received result }
 {
-    let taken = Taken {
+    Taken {
         received,
         deliveries: Vec::new(alloc),
-        noted: None,
-    };
-    (taken, None)
-}
-
-/// The entry with the names of what is delivered by these events, where there is to be one.
-fn entry_of(named: Option<Named>, delivered: &[Event]) -> Option<Entry>
-    requires { (n : Names) → named ≡ Some n → HasRoomForNames n.frame (length delivered.now) n }
-    ensures { (n : Names) → named ≡ Some n → option_map entry_fields result
-        ≡ Some (ArriveEntry n.frame (names_of delivered.now)) }
-{
-    match named {
-        Some(named) => Some(named.entry(delivered)),
-        None => None,
     }
-}
-
-/// The entry of a received status, where there is to be one.
-fn heard_if(entered: bool, alloc: Global, bytes: &Bytes) -> Result<Option<Entry>, NoMemory>
-    ensures { IfOk result (λ entry. entered ≡ true
-        → option_map entry_fields entry ≡ Some (ArriveEntry bytes.now [])) }
-{
-    if !entered {
-        return Ok(None);
-    }
-    Ok(Some(heard_in(alloc, bytes)?))
 }
 
 /// The frame of the bytes. What is no frame is refused without memory.

@@ -9,19 +9,20 @@ use crate::own_cast::{Casting, last_time, push_casts};
 use crate::state::State;
 use crate::text::another;
 use crate::wanted::{Made, Wanted};
+use bytes::Bytes;
 use cb_delay::Event;
-use cb_history::{BurstRefusal, CastRefusal, Entry};
+use cb_history::{BurstRefusal, CastRefusal};
 use cb_times::{NoMemory, make_room};
 
 impl State {
     /// Casts a message of this payload. Its event joins the events; what is told of it is handed out, and
-    /// the entry that a history would have of it.
+    /// the frame of the entry that a history would have of it.
     pub fn cast_joining(
         &mut self,
         payload: &[u8],
         wanted: Wanted,
         events: &mut Vec<Event>,
-    ) -> Result<(Made, Entry), CastRefusal>
+    ) -> Result<(Made, Bytes), CastRefusal>
         requires { IsCore (core_of self.old) }
         ensures { AnswersCastInto wanted (One payload.now) (core_of self.old) (core_of self.new)
             events.old.items events.new.items result }
@@ -33,13 +34,13 @@ impl State {
     }
 
     /// Casts a message of each payload, all in one frame. Their events join the events; what is told of the burst is handed out, and the
-    /// entry that a history would have of it.
+    /// frame of the entry that a history would have of it.
     pub fn cast_burst_joining(
         &mut self,
         payloads: &[&[u8]],
         wanted: Wanted,
         events: &mut Vec<Event>,
-    ) -> Result<(Made, Entry), BurstRefusal>
+    ) -> Result<(Made, Bytes), BurstRefusal>
         requires { IsCore (core_of self.old) }
         ensures { AnswersBurstInto wanted (many_of payloads.now) (core_of self.old) (core_of self.new)
             events.old.items events.new.items result }
@@ -56,17 +57,15 @@ impl State {
         casting: Casting,
         wanted: Wanted,
         events: &mut Vec<Event>,
-    ) -> Result<(Made, Entry), NoMemory>
+    ) -> Result<(Made, Bytes), NoMemory>
         requires { IsMade casting self.old }
         ensures { JoinsMade wanted casting self.old self.new events.old.items events.new.items
             result }
     {
         let count = casting.count();
         make_room(events, count)?;
-        let entry = Entry::Cast {
-            frame: another(&casting.out)?,
-        };
-        let noted = wanted.note(&entry)?;
+        let entry = another(&casting.out)?;
+        let noted = wanted.frame(&casting.out)?;
         let time = wanted.time(&casting.first.time)?;
         let count = count as u32;
         let Casting {

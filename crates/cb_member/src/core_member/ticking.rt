@@ -23,7 +23,7 @@ impl State {
         let entered = self.has_news();
         let bytes = self.status_text()?;
         let entry = entry_if(entered, &bytes)?;
-        let noted = wanted.note_any(&entry)?;
+        let noted = wanted.note(&entry)?;
         let mut out = self.requests()?;
         out.insert(0, Outgoing { to: None, bytes })?;
         if entered {

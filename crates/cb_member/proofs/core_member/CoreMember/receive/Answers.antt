@@ -12,7 +12,7 @@ returns-in_err-taken-clause-no_limit c full =
     (sym exit.2 ∙ same_refusal exit.0 refusals.HistoryFull (sym exit.1 ∙ full))
 
 pub returns-clause-taken : goal.returns-clause-taken
-returns-clause-taken c = rw c.received.ensures c.in_ok-taken.ensures.hears.taken
+returns-clause-taken c = rw c.received.ensures c.in_ok-taken.ensures.hears.taken_is
 
 pub returns-clause-call : goal.returns-clause-call
-returns-clause-call c = rw c.received.ensures (record { answered = c.in_ok-taken.ensures.hears.taken; goes = c.in_ok-taken.ensures.hears.goes_on })
+returns-clause-call c = rw c.received.ensures (record { answered = c.in_ok-taken.ensures.hears.taken_is; goes = c.in_ok-taken.ensures.hears.goes_on })

@@ -12,4 +12,4 @@ returns-in_err-taken-clause-no_limit c full =
     (sym exit.2 ∙ same_refusal exit.0 refusals.HistoryFull (sym exit.1 ∙ full))
 
 pub returns-clause-taken : goal.returns-clause-taken
-returns-clause-taken c = rw c.received.ensures c.in_ok-taken.ensures.hears.taken
+returns-clause-taken c = rw c.received.ensures c.in_ok-taken.ensures.hears.taken_is

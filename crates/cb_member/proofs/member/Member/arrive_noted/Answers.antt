@@ -8,10 +8,10 @@ pub invariant_of-self-2 : goal.invariant_of-self-2
 invariant_of-self-2 c = received_keeps _ _ _ _ _ c.self.invariant c.in_ok-taken.ensures.done
 
 pub returns-clause-taken : goal.returns-clause-taken
-returns-clause-taken c = rw (← c.self.view_is) (received_arrival _ _ _ _ c.in_ok-taken.taken c.self.invariant c.in_ok-taken.ensures.done c.arrival.result.0 c.arrival.ensures.says refl)
+returns-clause-taken c = rw (← c.self.view_is) (received_arrival _ _ _ _ (c.in_ok-taken.taken, c.in_ok-taken.noted) c.self.invariant c.in_ok-taken.ensures.done c.arrival.result c.arrival.ensures refl)
 
 pub returns-clause-entry : goal.returns-clause-entry
-returns-clause-entry c = rw (c.arrival.ensures.noted, ← c.self.view_is) (received_entry _ _ _ _ c.in_ok-taken.taken c.self.invariant c.in_ok-taken.ensures.done refl)
+returns-clause-entry c = rw (← c.self.view_is) (received_entry _ _ _ _ (c.in_ok-taken.taken, c.in_ok-taken.noted) c.self.invariant c.in_ok-taken.ensures.done refl)
 
 pub returns-in_err-taken-clause-refused : goal.returns-in_err-taken-clause-refused
 returns-in_err-taken-clause-refused c =

@@ -7,7 +7,7 @@ pub invariant_of-self-2 : goal.invariant_of-self-2
 invariant_of-self-2 c = received_keeps _ _ _ _ _ c.self.invariant c.in_ok-taken.ensures.done
 
 pub returns-clause-taken : goal.returns-clause-taken
-returns-clause-taken c = rw (c.received.ensures, ← c.self.view_is) (received_frame _ _ _ _ c.in_ok-taken.taken c.self.invariant c.in_ok-taken.ensures.done)
+returns-clause-taken c = rw (c.received.ensures, ← c.self.view_is) (received_frame _ _ _ _ (c.in_ok-taken.taken, c.in_ok-taken._none) c.self.invariant c.in_ok-taken.ensures.done)
 
 pub returns-in_err-taken-clause-refused : goal.returns-in_err-taken-clause-refused
 returns-in_err-taken-clause-refused c =

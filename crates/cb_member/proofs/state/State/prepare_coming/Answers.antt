@@ -1,11 +1,10 @@
-use Rattle.std.proofs.Common.{ℕ, sym, subst}
+use Rattle.std.proofs.Common.{sym, subst}
 use Rattle.cb_frames.specs.Fields.{unit_fields}
 use Rattle.cb_member.specs.declared.state.State.{State}
 use Rattle.cb_member.specs.Arriving.{IsNew}
 use Rattle.cb_member.specs.CoreMember.{IsCore, core_of}
 use Rattle.cb_member.specs.Course.{CanGo}
 use Rattle.cb_member.specs.Foreseen.{AreCopies}
-use Rattle.cb_member.specs.Received.{IsMadeIf}
 use Rattle.cb_member.proofs.Accepting.{is_new_alike}
 use Rattle.cb_member.proofs.Cores.{same_core}
 use Rattle.cb_member.proofs.state.State.prepare_coming.Goals as goal
@@ -18,7 +17,6 @@ returns-clause-can c =
     let same = c.in_ok-course.ensures.same in
     let still = c.in_ok-deliveries.ensures.same in
     let cast = unit_fields c.args.unit in
-    let most_is = c.most-most.ensures in
     record {
       core_is = subst (λ (s : State). IsCore (core_of s)) (sym still) (subst IsCore (sym (same_core old mid same)) c.requires.core);
       bytes_are = c.requires.bytes;
@@ -26,7 +24,5 @@ returns-clause-can c =
       frame = c.in_ok-another.ensures;
       new = subst (IsNew cast) (sym still) (is_new_alike cast old mid same c.requires.new);
       can_go = subst (CanGo cast c.in_ok-course.course) (sym still) c.in_ok-course.ensures.course;
-      entry = subst (λ (n : ℕ). IsMadeIf c.args.entered c.args.bytes.now n c.in_ok-with_room_if.field-0) most_is c.in_ok-with_room_if.ensures;
       copies = λ want. subst (λ (s : State). AreCopies cast c.in_ok-course.course s c.in_ok-deliveries.deliveries.items) (sym still) (c.in_ok-deliveries.ensures.copies want);
-      noted = subst (λ (n : ℕ). IsMadeIf c.args.wanted.entry c.args.bytes.now n c.in_ok-with_room_if-2.field-0) most_is c.in_ok-with_room_if-2.ensures;
     }
