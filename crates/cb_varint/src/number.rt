@@ -32,6 +32,7 @@ fn groups_in(v: u32) -> usize
 }
 
 /// Appends the one spelling of `v` to `out`. Out of memory, `out` keeps its bytes.
+#[inline(always)]
 #[tactic(auto, unfolding(crate::specs::Reading::spelling))]
 pub fn put(v: u32, out: &mut Vec<u8>) -> Result<(), AllocError>
     ensures text { OnOk result (AppendsSpelling out.old.items out.new.items v) }
