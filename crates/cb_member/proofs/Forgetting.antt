@@ -35,7 +35,7 @@ use Rattle.cb_member.specs.Asked.{wants_answer, wants_entry}
 use Rattle.cb_member.specs.KeptCalls.{HasMade, HasReceived, HasTold, Tells}
 use Rattle.cb_member.proofs.Adding.{arrival_adds, cast_adds, tick_adds}
 use Rattle.cb_member.proofs.Keeping.{Adds, goes_on, is_kept}
-use Rattle.cb_member.proofs.Limits.{arrival_full, arrival_read, arrival_refused, arrival_same, arrival_silent, cast_full, cast_refused, cast_same, no_room_is_left, room_is_left, tick_full, tick_enters_none, tick_refused, tick_same, tick_silent}
+use Rattle.cb_member.proofs.Limits.{arrival_full, arrival_refused, arrival_same, arrival_silent, cast_full, cast_refused, cast_same, no_room_is_left, room_is_left, tick_full, tick_enters_none, tick_refused, tick_same, tick_silent}
 
 -- the history of this length is full
 abbrev pub Full : Kept → Bool

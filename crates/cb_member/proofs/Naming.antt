@@ -131,9 +131,9 @@ module _ (bytes : List ℕ) (room : ℕ) (started entries : List Entry) (count :
   first_at o names named n = record {
     at = n.at ∙ append_assoc started (o.first ∷ []) (n.named ∷ []);
     place_is = (
-      let all = count_is ∙ ap (λ (es : List Entry). length es) o.at ∙ length-append (started ++ o.first ∷ []) (o.last ∷ []) in
-      let some = length-append started (o.first ∷ []) in omega (arith, all, some)
-    );
+        let all = count_is ∙ ap (λ (es : List Entry). length es) o.at ∙ length-append (started ++ o.first ∷ []) (o.last ∷ []) in
+        let some = length-append started (o.first ∷ []) in omega (arith, all, some)
+        );
     is = o.first_is;
   }
 

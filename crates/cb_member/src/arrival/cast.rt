@@ -1,4 +1,6 @@
 //! The arrival of a cast or a burst: what the rules say of it, and what is done with one that they let pass.
+//!
+//! A cast that comes in order and lets no other go is the common case. Its way is compiled into one function.
 
 ghost use Rattle.std.specs.Prelude.{◌≡◌, ◌+◌, ◌≤◌, ◌++◌, ◌∷◌, [], ℕ};
 ghost use Rattle.std.specs.Vec.{vec_capacity, vec_len};

@@ -1,4 +1,6 @@
 //! Received bytes at a core: what is delivered moves into the caller's events, so nothing is copied.
+//!
+//! The way of a cast is compiled into one function. Other frames are rarer, and theirs are called.
 
 ghost use Rattle.std.specs.Prelude.{◌≡◌, ◌≤◌, ◌+◌, ℕ, List, true, IfOk, IfErr, Ok, []};
 ghost use Rattle.std.specs.Vec.{vec_capacity, vec_len};

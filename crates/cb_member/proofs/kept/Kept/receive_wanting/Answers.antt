@@ -1,7 +1,6 @@
-use Rattle.std.proofs.Common.{◌≡◌, ◌∙◌, Bool, not, ◌&&◌, true, false, List, map, refl, sym, ap}
+use Rattle.std.proofs.Common.{◌≡◌, ◌∙◌, Bool, not, ◌&&◌, true, false, map, refl, sym, ap}
 use Rattle.std.specs.Prelude.{if◌then◌else◌, option_map}
 use Rattle.std.proofs.lemmas.List.{length-map}
-use Rattle.cb_history.specs.declared.history.Entry.{Entry}
 use Rattle.cb_history.specs.Facts.{entry_fields}
 use Rattle.cb_history.specs.Legal.{ToTake, and_entry}
 use Rattle.cb_member.specs.Kept.{Kept}

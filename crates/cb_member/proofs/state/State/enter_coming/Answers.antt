@@ -1,4 +1,4 @@
-use Rattle.std.proofs.Common.{arith, ◌≡◌, ◌-◌, ◌∙◌, ℕ, List, length, map, drop, take, refl, ap, subst}
+use Rattle.std.proofs.Common.{arith, ◌≡◌, ◌-◌, ◌∙◌, List, length, map, drop, take, refl, ap, subst}
 use Rattle.cb_frames.specs.Fields.{unit_fields}
 use Rattle.cb_times.specs.declared.name.Name.{Name}
 use Rattle.cb_member.specs.CoreCalls.{joined}

@@ -71,9 +71,11 @@ enter_coming-requires-clause-coming c =
 
 pub enter_coming-requires-clause-open : goal.enter_coming-requires-clause-open
 enter_coming-requires-clause-open c =
-    let most_is = c.most-most.ensures in
-    (c.args.entries.now.items, subst (λ (bytes : List ℕ). HasOpened c.args.asked bytes (most c.in_ok-coming.coming.course) c.args.entries.now.items c.open_entries.new.entries.items) (sym c.in_ok-coming.ensures.can.frame)
-    (subst (λ (room : ℕ). HasOpened c.args.asked c.args.bytes.now room c.args.entries.now.items c.open_entries.new.entries.items) most_is c.in_ok-open_entries.ensures.opened))
+    let most_is = c.most-most.ensures in (
+      c.args.entries.now.items,
+      subst (λ (bytes : List ℕ). HasOpened c.args.asked bytes (most c.in_ok-coming.coming.course) c.args.entries.now.items c.open_entries.new.entries.items) (sym c.in_ok-coming.ensures.can.frame)
+          (subst (λ (room : ℕ). HasOpened c.args.asked c.args.bytes.now room c.args.entries.now.items c.open_entries.new.entries.items) most_is c.in_ok-open_entries.ensures.opened),
+    )
 
 pub returns : goal.returns
 returns c =

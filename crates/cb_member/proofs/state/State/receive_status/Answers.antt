@@ -6,7 +6,7 @@ use Rattle.cb_member.specs.declared.arrival.status.Judged.{Judged}
 use Rattle.cb_member.specs.CoreMember.{core_of}
 use Rattle.cb_member.specs.Hearing.{JudgesStatus}
 use Rattle.cb_member.proofs.Cores.{is_state}
-use Rattle.cb_member.proofs.CoreArrivals.{answered_on_each, answers_unchanged, heard_so, out_of_memory, refused_frame, refuses_arrival, refuses_entry}
+use Rattle.cb_member.proofs.CoreArrivals.{answered_on_each, answers_unchanged, heard_so, refused_frame, refuses_arrival, refuses_entry}
 use Rattle.cb_member.proofs.Naming.{named_without}
 use Rattle.cb_member.proofs.state.State.receive_status.Goals as goal
 
