@@ -118,6 +118,7 @@ impl State {
     }
 
     /// Keeps the cast that was made: it has this many messages, and this is the time with them. This takes no memory.
+    #[inline(always)]
     pub fn keep_cast(&mut self, time: &VectorTime, sent: Bytes, count: u32)
         requires { CanKeepCast time.now sent count self.old }
         ensures { HasKept time.now sent count self.old self.new }
@@ -133,6 +134,7 @@ impl State {
 }
 
 /// Puts the events of these casts behind the others, which have room for them.
+#[inline(always)]
 pub fn push_casts(events: &mut Vec<Event>, first: Message, others: Vec<Message>)
     requires { vec_len events.old + (1 + length others.items) ≤ vec_capacity events.old }
     ensures { events.new.items ≡ events.old.items

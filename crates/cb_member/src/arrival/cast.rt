@@ -134,6 +134,7 @@ impl State {
     }
 
     /// It came in order, and alone is delivered. What its time says of other senders was heard of, since all that is delivered.
+    #[inline(always)]
     fn deliver_alone(&mut self, cast: Cast, time: VectorTime, events: &mut Vec<Event>)
         requires alone { GoesAlone (cast_fields cast) time self.old }
         requires room { vec_len events.old + 1 ≤ vec_capacity events.old }

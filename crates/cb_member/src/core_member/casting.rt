@@ -1,4 +1,4 @@
-//! Own casts of a core.
+//! Own casts of a core. The way of a cast is compiled into one function.
 
 ghost use Rattle.cb_frames.specs.Fields.{One};
 ghost use Rattle.cb_history.specs.Load.{many_of};
@@ -52,6 +52,7 @@ impl State {
     }
 
     /// Keeps a cast that was made, whose events join the events.
+    #[inline(always)]
     fn join_made(
         &mut self,
         casting: Casting,
