@@ -1,9 +1,10 @@
 -- What the calls do to a member with its frames.
-use Rattle.std.specs.Prelude.{◌≡◌, ◌⊎◌, ℕ, ◌+◌, ◌≤◌, true, false, List, [], ◌∷◌, length, slice_range, Option, None, option_to_list, Ok, Err}
+use Rattle.std.specs.Prelude.{◌≡◌, ◌⊎◌, ℕ, ◌+◌, ◌≤◌, true, false, List, [], ◌∷◌, length, slice_range, Option, None, option_to_list, Result, Ok, Err}
 use Rattle.cb_delay.specs.declared.message.Event.{Event}
 use Rattle.cb_frames.specs.Fields.{Load}
 use Rattle.cb_history.specs.declared.answer.ArriveRefusal.{ArriveRefusal}
 use Rattle.cb_history.specs.declared.answer.ArriveRefusal.TheVariants as refusals
+use Rattle.cb_history.specs.declared.answer.HelpFault.{HelpFault}
 use Rattle.cb_history.specs.declared.answer.Outgoing.{Outgoing}
 use Rattle.cb_history.specs.Answers.{ArrivalSays, Accepted, Repeat}
 use Rattle.cb_history.specs.Facts.{EntryFields}
@@ -12,6 +13,7 @@ use Rattle.cb_history.specs.Legal.{ToTake}
 use Rattle.cb_history.specs.State.{MemberState, answer_to_arrival, answer_to_help}
 use Rattle.cb_member.specs.declared.received.Received as taken
 use Rattle.cb_member.specs.declared.received.Received.TheVariants as takens
+use Rattle.cb_member.specs.Helping.{answer_to_help_among}
 use Rattle.cb_member.specs.Kept as kept
 use Rattle.cb_member.specs.KeptCalls.{GoesOn, HasCast, HasTicked}
 use Rattle.cb_member.specs.Received.{sent_by}
@@ -100,9 +102,16 @@ RefusesLoaded held first len (Refused refusal) = AreLoaded held first len × OnE
 abbrev pub HasTickedToSend : Held → Held → Type 0
 HasTickedToSend old new = (new.loaded ≡ old.loaded) × HasTicked old.kept new.kept (frames_of new.frames)
 
--- help is asked for from a third member for what is missing of member i, or nothing is: that is what is to be sent; the member, what can be
--- read of it and what is loaded stay
-abbrev pub HasHelpToSend : Held → Held → ℕ → Type 0
-HasHelpToSend old new i =
-    (out : Option Outgoing) × OnEach old (λ m. answer_to_help m i ≡ Ok out) × (frames_of new.frames ≡ option_to_list out)
+-- a third member is asked for help, or none is: that is what is to be sent; the member, what can be read of it and what is loaded stay
+abbrev pub HasAsked : Held → Held → (MemberState → Result (Option Outgoing) HelpFault) → Type 0
+HasAsked old new answer =
+    (out : Option Outgoing) × OnEach old (λ m. answer m ≡ Ok out) × (frames_of new.frames ≡ option_to_list out)
     × (new.loaded ≡ old.loaded) × (new.kept ≡ old.kept)
+
+-- for what is missing of member i
+abbrev pub HasHelpToSend : Held → Held → ℕ → Type 0
+HasHelpToSend old new i = HasAsked old new (λ m. answer_to_help m i)
+
+-- and one of these members is asked
+abbrev pub HasHelpAmongToSend : Held → Held → ℕ → List ℕ → Type 0
+HasHelpAmongToSend old new i members = HasAsked old new (λ m. answer_to_help_among m i members)
