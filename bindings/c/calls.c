@@ -122,6 +122,7 @@ static void test_closed(jolunza_handle *handle)
     CHECK(jolunza_receive_parts(handle, 0, (const size_t[]){0}, 1, &f->count) == JOLUNZA_CLOSED);
     CHECK(jolunza_tick(handle) == JOLUNZA_CLOSED);
     CHECK(jolunza_help(handle, 1) == JOLUNZA_CLOSED);
+    CHECK(jolunza_help_among(handle, 1, (const uint32_t[]){0}, 1) == JOLUNZA_CLOSED);
     CHECK(jolunza_count(handle, &f->counts) == JOLUNZA_CLOSED);
     CHECK(jolunza_frame(handle, 0, f->frames, f->bytes, sizeof f->bytes) == JOLUNZA_CLOSED);
     CHECK(jolunza_frames(handle, 0, f->frames, 4, f->bytes, sizeof f->bytes, &f->count) == JOLUNZA_CLOSED);
@@ -587,6 +588,24 @@ static void test_help(size_t limit)
     CHECK(counts(&handle, 1, before.events, before.entries) && is_frame(&handle, 0, 1, help, sizeof help));
     CHECK(jolunza_help(&handle, 1) == JOLUNZA_DONE);
     CHECK(counts(&handle, 0, before.events, before.entries));
+    jolunza_close(&handle);
+}
+
+/* Member 2 asks the first of the members given that it knows to have what is missing; itself and member 0 are passed over. */
+static void test_help_among(void)
+{
+    static const uint32_t members[] = {2, 0, 1, 3};
+    jolunza_handle handle = JOLUNZA_CLOSED_HANDLE;
+
+    CHECK(jolunza_open(&handle, GROUP, SIZE, WINDOW, 2, LIMIT) == JOLUNZA_DONE);
+    CHECK(receive(&handle, BYTES(0x12, 7, 1, 2, 0, 2, 0, 1)) == JOLUNZA_DONE);
+    CHECK(jolunza_help_among(&handle, 0, members, 3) == JOLUNZA_DONE && is_frame(&handle, 0, 1, help, sizeof help));
+    CHECK(jolunza_help_among(&handle, 0, members, 4) == JOLUNZA_BAD_MEMBER);
+    CHECK(counts_of(&handle).frames == 1);
+    CHECK(jolunza_help_among(&handle, 0, members, 2) == JOLUNZA_DONE && counts_of(&handle).frames == 0);
+    CHECK(jolunza_help_among(&handle, 0, members, 0) == JOLUNZA_DONE && counts_of(&handle).frames == 0);
+    CHECK(jolunza_help_among(&handle, 2, members, 3) == JOLUNZA_BAD_MEMBER);
+    CHECK(jolunza_help_among(&handle, 3, members, 3) == JOLUNZA_BAD_MEMBER);
     jolunza_close(&handle);
 }
 
@@ -1249,6 +1268,7 @@ int main(void)
     test_tick_and_frame();
     test_help(LIMIT);
     test_help(0);
+    test_help_among();
     test_helper(LIMIT);
     test_helper(0);
     test_frames();

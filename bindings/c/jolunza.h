@@ -278,6 +278,14 @@ uint32_t jolunza_tick(jolunza_handle *handle);
  */
 uint32_t jolunza_help(jolunza_handle *handle, uint32_t member);
 
+/*
+ * Asks as jolunza_help does, but only one of these `count` members: the first that is known to have delivered the first missing
+ * cast. Pass the members that you still hear from, so that no silent one is asked. The member's own number and the number of the
+ * member whose casts are missing may be among them, and are passed over. BAD_MEMBER also for a number among them that no member
+ * has.
+ */
+uint32_t jolunza_help_among(jolunza_handle *handle, uint32_t member, const uint32_t *members, size_t count);
+
 uint32_t jolunza_count(jolunza_handle *handle, jolunza_counts *counts);
 
 /* Frame `index` of the last call, from 0. Its first `capacity` bytes are copied; head->length tells how many it has. */

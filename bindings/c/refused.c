@@ -90,6 +90,7 @@ static struct kind {
     {"jolunza_receive_parts", 0},
     {"jolunza_tick", 0},
     {"jolunza_help", 0},
+    {"jolunza_help_among", 0},
     {"jolunza_missing", 0},
     {"jolunza_journal_head", 0},
     {"jolunza_journal_line", 0},
@@ -332,6 +333,7 @@ static void help(jolunza_handle *of_0, jolunza_handle *of_1, jolunza_handle *of_
 
     receive_all("jolunza_receive", of_2, sent, frames_of(of_1, sent));
     TRY(of_2, jolunza_help(of_2, 0));
+    TRY(of_2, jolunza_help_among(of_2, 0, (const uint32_t[]){1}, 1));
     MUST(frames_of(of_2, sent) == 1 && sent[0].head.to == 1);
     receive_all("jolunza_receive of a help frame", of_1, sent, 1);
     MUST(frames_of(of_1, sent) == CASTS);

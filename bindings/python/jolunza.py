@@ -310,6 +310,12 @@ class const_size_t(POINTER(c_size_t)):  # type: ignore[misc]
     _type_ = c_size_t
 
 
+class const_uint32(POINTER(c_uint32)):  # type: ignore[misc]
+    """A pointer to numbers of members that are only read."""
+
+    _type_ = c_uint32
+
+
 HANDLE = ("handle", POINTER(jolunza_handle))
 
 # The answer and the parameters of each function. `c_char_p` is bytes that are only read, and never NULL here.
@@ -330,6 +336,7 @@ FUNCTIONS: dict[str, tuple[Any, list[tuple[str, Any]]]] = {
     ]),
     "jolunza_tick": (c_uint32, [HANDLE]),
     "jolunza_help": (c_uint32, [HANDLE, ("member", c_uint32)]),
+    "jolunza_help_among": (c_uint32, [HANDLE, ("member", c_uint32), ("members", const_uint32), ("count", c_size_t)]),
     "jolunza_count": (c_uint32, [HANDLE, ("counts", POINTER(jolunza_counts))]),
     "jolunza_frame": (c_uint32, [
         HANDLE, ("index", c_size_t), ("head", POINTER(jolunza_frame_head)), ("bytes", POINTER(c_uint8)), ("capacity", c_size_t),
@@ -550,6 +557,13 @@ class Member:
         have it. The member stays as it is."""
         return self._done("help", _member(member))
 
+    def help_among(self, member: int, members: Sequence[int]) -> Output:
+        """Asks as `help` does, but only one of these members: the first that is known to have delivered the first missing cast. Pass the
+        members that you still hear from, so that no silent one is asked. This member's number and that of the member whose casts are
+        missing are passed over among them. BAD_MEMBER also of a number among them that no member has."""
+        given = (c_uint32 * len(members))(*map(_member, members))
+        return self._done("help_among", _member(member), given, len(given))
+
     def counts(self) -> Counts:
         counts = jolunza_counts()
         with self._lock:
@@ -643,7 +657,7 @@ class Member:
         """Makes a call, and copies what it did before another thread makes the next one."""
         with self._lock:
             # without a history only those of this call are counted; a help leaves those of the call before
-            before = self._count() if self.keeps_history or name == "help" else jolunza_counts()
+            before = self._count() if self.keeps_history or name in ("help", "help_among") else jolunza_counts()
             after = self._kept(before, name, *given)
             events = self._all_events(before.events, after.events)
             return Output(self._frames(after.frames), events, False, after.entries > before.entries)

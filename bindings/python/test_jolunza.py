@@ -75,6 +75,7 @@ def calls(member: Member) -> tuple[Callable[[], object], ...]:
         lambda: member.receive_parts(0, [len(YO)]),
         member.tick,
         lambda: member.help(1),
+        lambda: member.help_among(1, [0]),
         member.counts,
         lambda: list(member.events()),
         lambda: list(member.entries()),
@@ -270,6 +271,11 @@ class WorkedExamples(Case):
             before = state(member)
             self.assertEqual(member.help(0), NOTHING._replace(frames=(Frame(1, HELP),)))
             self.assertEqual(helps(member), [(Frame(1, HELP),), ()])
+            self.assertEqual(member.help_among(0, [2, 0, 1]), member.help(0))
+            for nobody in ([], [0, 2]):
+                self.assertEqual(member.help_among(0, nobody), NOTHING)
+            for other, members in ((2, [1]), (3, [1]), (0, [1, 3]), (0, [-1])):
+                self.refuses(Code.BAD_MEMBER, member, Member.help_among, other, members)
             self.assertEqual(state(member), before)
             member.receive(bytes.fromhex("11 07 00 01 00 01 61"))
             self.assertEqual(helps(member), [(Frame(1, bytes.fromhex("23 07 02 01 00 01 01 00")),), ()])

@@ -161,6 +161,15 @@ impl Journal {
         self.kept(|member| member.help(other))
     }
 
+    /// [`Member::help_among`].
+    pub fn help_among(
+        &mut self,
+        other: u32,
+        members: &[u32],
+    ) -> Result<Result<Output<'_>, Refusal>, JournalFault> {
+        self.kept(|member| member.help_among(other, members))
+    }
+
     /// Makes a call, and writes its entries before it answers. From the first fault on it makes none, and answers that fault.
     fn kept(
         &mut self,

@@ -63,7 +63,7 @@ pub struct Awaited {
 
 /// One member of a group.
 ///
-/// Its calls are `cast`, `cast_burst`, `receive`, `receive_loaded`, `receive_parts`, `tick` and `help`. Each answers an [`Output`]: send its
+/// Its calls are `cast`, `cast_burst`, `receive`, `receive_loaded`, `receive_parts`, `tick`, `help` and `help_among`. Each answers an [`Output`]: send its
 /// frames and show its events before the next call. All else only reads.
 ///
 /// Of one group each member number is opened once in the world. The others ignore a member that begins anew under an old
@@ -306,6 +306,16 @@ impl Member {
     #[inline]
     pub fn help(&mut self, member: u32) -> Result<Output<'_>, Refusal> {
         answered(unsafe { sys::jolunza_help(self.handle.get(), member) })?;
+        Ok(self.output(Left::Frames, 0, 0))
+    }
+
+    /// Asks as [`help`](Member::help) does, but only one of these members: the first that is known to have delivered the first missing
+    /// cast. Pass the members that you still hear from, so that no silent one is asked. This member's number and that of the member
+    /// whose casts are missing are passed over among them. `BadMember` also of a number among them that no member has.
+    #[inline]
+    pub fn help_among(&mut self, member: u32, members: &[u32]) -> Result<Output<'_>, Refusal> {
+        let (at, count) = (members.as_ptr(), members.len());
+        answered(unsafe { sys::jolunza_help_among(self.handle.get(), member, at, count) })?;
         Ok(self.output(Left::Frames, 0, 0))
     }
 

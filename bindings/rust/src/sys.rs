@@ -170,6 +170,13 @@ extern "C" {
 
     pub fn jolunza_help(handle: *mut jolunza_handle, member: u32) -> u32;
 
+    pub fn jolunza_help_among(
+        handle: *mut jolunza_handle,
+        member: u32,
+        members: *const u32,
+        count: usize,
+    ) -> u32;
+
     pub fn jolunza_count(handle: *mut jolunza_handle, counts: *mut jolunza_counts) -> u32;
 
     pub fn jolunza_frame(

@@ -363,7 +363,11 @@ fn what_a_silent_member_has_cast_comes_from_a_third() {
         assert_eq!(taker.help(0).unwrap().frames().map(|frame| frame.to).collect::<Vec<_>>(), [Some(1)]);
         for number in [2, SIZE] {
             assert_eq!(taker.help(number).map(drop), Err(Refusal::BadMember));
+            assert_eq!(taker.help_among(number, &[1]).map(drop), Err(Refusal::BadMember));
         }
+        assert_eq!(taker.help_among(0, &[1, SIZE]).map(drop), Err(Refusal::BadMember));
+        assert!(sent(taker.help_among(0, &[0, 2])).is_empty(), "none of them is a third member");
+        assert_eq!(sent(taker.help_among(0, &[2, 0, 1])), help);
         let mut answer = helper.receive(&help[0]).unwrap();
         assert!(answer.frames().all(|frame| frame.to == Some(2)));
         let payloads: Vec<_> =

@@ -74,11 +74,11 @@ impl Speaker for Member {
     }
 }
 
-/// A member without history, and the list in which it hands out its deliveries.
+/// A member without history, and the list that its casts and deliveries join.
 #[derive(Drop)]
 pub struct Core {
     member: CoreMember,
-    delivered: Vec<Event>,
+    events: Vec<Event>,
 }
 
 impl Speaker for Core {
@@ -89,21 +89,23 @@ impl Speaker for Core {
         };
         Ok(Core {
             member,
-            delivered: Vec::new(alloc),
+            events: Vec::new(alloc),
         })
     }
 
     fn cast(&mut self, payload: &[u8]) -> Result<Option<Bytes>, NoMemory> {
-        match self.member.cast(payload) {
-            Ok(done) => Ok(Some(done.out)),
+        self.events.clear();
+        match self.member.cast(payload, &mut self.events) {
+            Ok((frame, _entry)) => Ok(Some(frame)),
             Err(CastRefusal::NoMemory) => Err(AllocError),
             Err(_) => Ok(None),
         }
     }
 
     fn cast_burst(&mut self, payloads: &[&[u8]]) -> Result<Option<Bytes>, NoMemory> {
-        match self.member.cast_burst(payloads) {
-            Ok(done) => Ok(Some(done.out)),
+        self.events.clear();
+        match self.member.cast_burst(payloads, &mut self.events) {
+            Ok((frame, _entry)) => Ok(Some(frame)),
             Err(BurstRefusal::NoMemory) => Err(AllocError),
             Err(_) => Ok(None),
         }
@@ -114,10 +116,10 @@ impl Speaker for Core {
         bytes: &Bytes,
         tally: &mut Tally,
     ) -> Result<Option<Vec<Outgoing>>, NoMemory> {
-        self.delivered.clear();
-        match self.member.receive(bytes, &mut self.delivered) {
+        self.events.clear();
+        match self.member.receive(bytes, &mut self.events) {
             Ok(Received::Accepted { delivered, out, .. }) => {
-                tally.add_last(self.member.seat().me(), delivered, &self.delivered);
+                tally.add_last(self.member.seat().me(), delivered, &self.events);
                 Ok(Some(out))
             }
             Err(ArriveRefusal::NoMemory) => Err(AllocError),

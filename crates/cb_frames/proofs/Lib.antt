@@ -2,6 +2,7 @@ mod Rows
 pub mod PairLoop
 pub mod PayloadLoop
 pub mod SaidPairs
+pub mod ShortPairs
 pub mod Fronts
 pub mod Outcome
 pub mod Unique

@@ -67,7 +67,7 @@ keeps_member n h = cond-false (ltb LAST_MEMBER n) (Some BadIndex) None (le-ltb L
 pub keeps_message : (n : ℕ) → 1 ≤ n → message_rule n ≡ None
 keeps_message n h = cond-false (eqb n 0) (Some ZeroNumber) None (ne_eqb n 0 (λ e. omega (arith, e, h)))
 
-keeps_amount : (n : ℕ) → 1 ≤ n → amount_rule n ≡ None
+pub keeps_amount : (n : ℕ) → 1 ≤ n → amount_rule n ≡ None
 keeps_amount n h = cond-false (eqb n 0) (Some ZeroDifference) None (ne_eqb n 0 (λ e. omega (arith, e, h)))
 
 pub keeps_length : (before n : ℕ) → before + n ≤ LONGEST_PAYLOAD → length_rule before n ≡ None
@@ -79,10 +79,10 @@ keeps_messages first n some few last = rw (ne_eqb n 0 (λ e. omega (arith, e, so
 pub keeps_ranges : (n : ℕ) → 1 ≤ n → n ≤ MOST_RANGES → ranges_rule n ≡ None
 keeps_ranges n some few = rw (ne_eqb n 0 (λ e. omega (arith, e, some)), le-ltb MOST_RANGES n few) refl
 
-keeps_index : (sender least gap : ℕ) → least + gap ≤ LAST_MEMBER → least + gap ≢ sender → index_rule sender least gap ≡ None
+pub keeps_index : (sender least gap : ℕ) → least + gap ≤ LAST_MEMBER → least + gap ≢ sender → index_rule sender least gap ≡ None
 keeps_index sender least gap small other = rw (le-ltb LAST_MEMBER (least + gap) small, ne_eqb (least + gap) sender other) refl
 
-keeps_value : (least gap : ℕ) → least + gap ≤ LAST_MEMBER → value_rule least gap ≡ None
+pub keeps_value : (least gap : ℕ) → least + gap ≤ LAST_MEMBER → value_rule least gap ≡ None
 keeps_value least gap small = cond-false (ltb LAST_MEMBER (least + gap)) (Some BadIndex) None (le-ltb LAST_MEMBER (least + gap) small)
 
 keeps_start : (least skip : ℕ) → least + skip ≤ LAST_NUMBER → start_rule least skip ≡ None

@@ -2,10 +2,10 @@
 //!
 //! A fault of the bytes is answered even out of memory.
 
-ghost use Rattle.std.specs.Prelude.{◌≡◌, ◌≤◌, ◌-◌, ◌+◌, [], min, IfOk};
-ghost use Rattle.std.specs.Vec.{vec_capacity};
+ghost use Rattle.std.specs.Prelude.{◌≡◌, ◌≤◌, ◌-◌, ◌+◌, ◌*◌, ◌++◌, [], min, length, drop, Ok, IfOk};
+ghost use Rattle.std.specs.Vec.{vec_capacity, vec_len};
 ghost use Rattle.cb_frames.specs.Fault.{amount_rule, range_pairs};
-ghost use Rattle.cb_frames.specs.Reading.{Answers, AnswersAs, pair_at, pairs_at, unless};
+ghost use Rattle.cb_frames.specs.Reading.{◌>>=◌ as ◌and_then◌, Answers, AnswersAs, pair_at, pairs_at, unless};
 ghost use Rattle.cb_frames.specs.Parts.{ListsBefore, pairs_but};
 
 use crate::fault::FrameFault;
@@ -81,10 +81,28 @@ fn increment_of(amount: u32) -> Result<u32, FrameFault>
     }
 }
 
-/// So many changes, or values where no field is `own`, and what is behind them.
+/// So many changes, or values where no field is `own`, and what is behind them. Most frames have none.
 ///
 /// Out of memory there is no list of them. They are read all the same, since a fault of the bytes is answered first.
+#[inline(always)]
+#[tactic(auto, unfolding(crate::specs::Reading::pairs_at))]
 pub fn all_changes(
+    alloc: Global,
+    own: Option<u32>,
+    count: u32,
+    bytes: &[u8],
+) -> Result<(Option<Vec<Change>>, &[u8]), FrameFault>
+    ensures { AnswersAs (λ x. ListsBefore (x.0, x.1.now)) result
+        (pairs_at (pairs_but own) count 0 bytes.now) }
+{
+    if count == 0 {
+        return Ok((Some(Vec::new(alloc)), bytes));
+    }
+    some_changes(alloc, own, count, bytes)
+}
+
+#[inline(never)]
+fn some_changes(
     alloc: Global,
     own: Option<u32>,
     count: u32,
@@ -114,15 +132,45 @@ fn list_changes<'a>(
     ensures { Answers (λ rest. (changes.new.items, rest.now)) result
         (pairs_at (pairs_but own) count 0 bytes.now) }
 {
-    let mut least = 0;
-    let mut rest = bytes;
-    for _ in 0..count {
+    let mut least = list_short_changes(own, count, bytes, changes);
+    let read = changes.len();
+    let mut rest = &bytes[2 * read..];
+    for _ in read as u32..count {
         let (change, after) = next_change(own, least, rest)?;
         changes.push_reserved(change);
         least = change.field + 1;
         rest = after;
     }
     Ok(rest)
+}
+
+/// Puts those changes at the front into the list that have two bytes each, and says the least index that is left.
+///
+/// Nearly all have, and so they are read in place. A pair with a fault is left too.
+fn list_short_changes(own: Option<u32>, count: u32, bytes: &[u8], changes: &mut Vec<Change>) -> u32
+    requires empty { changes.old.items ≡ [] }
+    requires room { min MOST_CHANGES count ≤ vec_capacity changes.old }
+    ensures capacity { vec_capacity changes.new ≡ vec_capacity changes.old }
+    ensures within { (vec_len changes.new ≤ count) × (2 * vec_len changes.new ≤ length bytes.now) }
+    ensures least { (vec_len changes.new ≤ result) × (result ≤ LAST_MEMBER + 1) }
+    ensures read { (pairs_at (pairs_but own) (count - vec_len changes.new) result
+        (drop (2 * vec_len changes.new) bytes.now)
+        and_then λ others. Ok (changes.new.items ++ others.0, others.1))
+        ≡ pairs_at (pairs_but own) count 0 bytes.now }
+{
+    let barred = own.unwrap_or(LAST_MEMBER + 1);
+    let mut least = 0;
+    for turn in 0..(count as usize).min(bytes.len() / 2) {
+        let field = least + u32::from(bytes[2 * turn]);
+        let amount = bytes[2 * turn + 1];
+        if field > LAST_MEMBER || field == barred || amount == 0 || amount >= 0x80 {
+            break;
+        }
+        let amount = u32::from(amount);
+        changes.push_reserved(Change { field, amount });
+        least = field + 1;
+    }
+    least
 }
 
 /// What is behind so many changes.

@@ -11,10 +11,8 @@ use Rattle.cb_handle.specs.Copies.{placed, copied, AreMost}
 use Rattle.cb_handle.specs.Frames.{frame_head, bytes_in, FramesFit}
 use Rattle.cb_handle.specs.Events.{event_head}
 use Rattle.cb_handle.specs.Entries.{entry_head}
-use Rattle.cb_handle.specs.Kept.{KeptMember, gone, limit_for, limit_of}
 use Rattle.cb_handle.specs.declared.held.Held.{Held}
 use Rattle.cb_handle.specs.Calling.{loaded_part, received_row, with_loaded}
-use Rattle.cb_handle.specs.Parts.{behind}
 use Rattle.cb_handle.specs.Payloads.{payloads_in}
 
 a_short_list_leaves_the_rest : copied {X = ℕ} (1 ∷ 2 ∷ []) (7 ∷ 8 ∷ 9 ∷ []) ≡ 1 ∷ 2 ∷ 9 ∷ []
@@ -81,27 +79,3 @@ a_part_of_what_is_loaded held = refl
 
 payloads_lie_one_after_another : payloads_in (1 ∷ 2 ∷ 3 ∷ 4 ∷ 5 ∷ []) (2 ∷ 0 ∷ 1 ∷ []) ≡ (1 ∷ 2 ∷ []) ∷ [] ∷ (3 ∷ []) ∷ []
 payloads_lie_one_after_another = refl
-
--- ---- members with a history, and without
-
-a_limit_stands : limit_for 5 (TickEntry [] ∷ []) ≡ 5
-a_limit_stands = refl
-
-without_a_history_there_is_room_for_one_more : limit_for 0 (TickEntry [] ∷ TickEntry [] ∷ []) ≡ 3
-without_a_history_there_is_room_for_one_more = refl
-
-of_a_history_nothing_is_gone : (kept : KeptMember) → gone {X = ℕ} (record kept { limit = 5 }) (1 ∷ 2 ∷ []) ≡ []
-of_a_history_nothing_is_gone kept = refl
-
-without_one_all_is_gone : (kept : KeptMember) → gone {X = ℕ} (record kept { limit = 0 }) (1 ∷ 2 ∷ []) ≡ 1 ∷ 2 ∷ []
-without_one_all_is_gone kept = refl
-
-of_a_history_all_is_there_after_each_part : (before after : KeptMember) → behind before (record after { limit = 5 }) ≡ record after { limit = 5 }
-of_a_history_all_is_there_after_each_part before after = refl
-
-without_one_a_part_adds_to_those_before : (before after : KeptMember)
-    → (behind (record before { entries = TickEntry [] ∷ [] }) (record after { limit = 0; entries = CastEntry [] ∷ [] })).entries ≡ TickEntry [] ∷ CastEntry [] ∷ []
-without_one_a_part_adds_to_those_before before after = refl
-
-a_limit_is_the_histories : (kept : KeptMember) → limit_of (record kept { limit = 5 }) (TickEntry [] ∷ []) ≡ 5
-a_limit_is_the_histories kept = refl

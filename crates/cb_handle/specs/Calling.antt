@@ -1,27 +1,28 @@
 -- What the calls do to a member with its frames.
-use Rattle.std.specs.Prelude.{◌≡◌, ◌⊎◌, ℕ, ◌+◌, ◌≤◌, Bool, true, false, List, [], ◌∷◌, ◌++◌, length, slice_range, Option, None, option_to_list, Ok, Err}
+use Rattle.std.specs.Prelude.{◌≡◌, ◌⊎◌, ℕ, ◌+◌, ◌≤◌, true, false, List, [], ◌∷◌, length, slice_range, Option, None, option_to_list, Result, Ok, Err}
 use Rattle.cb_delay.specs.declared.message.Event.{Event}
-use Rattle.cb_frames.specs.Fields.{Load, CastFrame}
-use Rattle.cb_frames.specs.Text.{text_of}
+use Rattle.cb_frames.specs.Fields.{Load}
 use Rattle.cb_history.specs.declared.answer.ArriveRefusal.{ArriveRefusal}
 use Rattle.cb_history.specs.declared.answer.ArriveRefusal.TheVariants as refusals
+use Rattle.cb_history.specs.declared.answer.HelpFault.{HelpFault}
 use Rattle.cb_history.specs.declared.answer.Outgoing.{Outgoing}
 use Rattle.cb_history.specs.Answers.{ArrivalSays, Accepted, Repeat}
 use Rattle.cb_history.specs.Facts.{EntryFields}
 use Rattle.cb_history.specs.Group.{Identity}
-use Rattle.cb_history.specs.Legal.{Call, ToCast, ToTake, ToTick}
-use Rattle.cb_history.specs.State.{MemberState, answer_to_cast, answer_to_arrival, answer_to_help, answer_to_tick, events_in, next_in, state_after}
-use Rattle.cb_member.specs.declared.recorder.taken.Received as taken
-use Rattle.cb_member.specs.declared.recorder.taken.Received.TheVariants as takens
-use Rattle.cb_member.specs.Received.{count_said, deliveries_in, received_says, sent_by}
+use Rattle.cb_history.specs.Legal.{ToTake}
+use Rattle.cb_history.specs.State.{MemberState, answer_to_arrival, answer_to_help}
+use Rattle.cb_member.specs.declared.received.Received as taken
+use Rattle.cb_member.specs.declared.received.Received.TheVariants as takens
+use Rattle.cb_member.specs.Helping.{answer_to_help_among}
+use Rattle.cb_member.specs.Kept as kept
+use Rattle.cb_member.specs.KeptCalls.{GoesOn, HasCast, HasTicked}
+use Rattle.cb_member.specs.Received.{sent_by}
 use Rattle.cb_handle.specs.declared.held.Held.{Held}
 use Rattle.cb_handle.specs.declared.held.LoadedRefusal.{LoadedRefusal}
 use Rattle.cb_handle.specs.declared.held.LoadedRefusal.TheVariants.{NotLoaded, Refused}
 use Rattle.cb_handle.specs.declared.rows.Counts.{Counts}
 use Rattle.cb_handle.specs.declared.rows.Received.{Received}
 use Rattle.cb_handle.specs.Frames.{frames_of}
-use Rattle.cb_handle.specs.Kept as kept
-use Rattle.cb_handle.specs.Kept.{KeptMember}
 
 -- ---- of what is held
 
@@ -60,22 +61,7 @@ counts_of held = record {
 
 -- ---- calls
 
--- Whatever history there was, it is the one after the call now. With a history all events and entries can be read, without one those that
--- the call added.
-pub record GoesOn (call : Call) (old new : KeptMember) : Type 0 where
-  pub seat : kept.seat_of new ≡ kept.seat_of old
-  pub limit : (entries : List EntryFields) → kept.limit_of new entries ≡ kept.limit_of old entries
-  pub stands : (entries : List EntryFields) → kept.Stands old entries → kept.Stands new (state_after (kept.state_with old entries) call).entries
-  pub events : kept.OnEach old (λ m. kept.gone new (events_in m) ++ kept.events_of new ≡ events_in (state_after m call))
-  pub entries : kept.OnEach old (λ m. kept.gone new m.entries ++ kept.entries_of new ≡ (state_after m call).entries)
-
--- a cast of this load was made, and this is its frame
-pub record HasCast (old new : KeptMember) (load : Load) (frame : List ℕ) : Type 0 where
-  pub answer : kept.OnEach old (λ m. answer_to_cast m load ≡ Ok (next_in m load))
-  pub frame_is : kept.OnEach old (λ m. frame ≡ text_of (CastFrame (next_in m load)))
-  pub goes_on : GoesOn (ToCast load) old new
-
--- and it is the one that is to be sent; what is loaded stays
+-- a cast of this load was made, and its frame is the one that is to be sent; what is loaded stays
 abbrev pub HasCastToSend : Held → Held → Load → Type 0
 HasCastToSend old new load =
     (frame : List ℕ) × (frames_of new.frames ≡ record { to = None; bytes = frame } ∷ []) × (new.loaded ≡ old.loaded) × HasCast old.kept new.kept load frame
@@ -89,18 +75,6 @@ received_row Repeat = record { is_repeat = true; is_entered = false; delivered =
 abbrev pub row_of : taken.Received → Received
 row_of (takens.Accepted delivered changed out) = record { is_repeat = false; is_entered = changed; delivered = delivered }
 row_of takens.Repeat = record { is_repeat = true; is_entered = false; delivered = 0 }
-
--- what the member says is what the definition does
-pub record Tells (r : taken.Received) (says : ArrivalSays) : Type 0 where
-  pub said : received_says r (deliveries_in says) ≡ says
-  pub count : count_said r ≡ length (deliveries_in says)
-
--- the bytes were taken, or were a repeat, and this is said of it
-pub record HasReceived (old new : KeptMember) (bytes : List ℕ) (r : taken.Received) : Type 0 where
-  pub says : ArrivalSays
-  pub answer : kept.OnEach old (λ m. answer_to_arrival m bytes ≡ Ok says)
-  pub tells : Tells r says
-  pub goes_on : GoesOn (ToTake bytes) old new
 
 -- what is told is what the definition says, and the frames are those that it sends; what is loaded stays
 pub record HasReceivedToSend (old new : Held) (bytes : List ℕ) (received : Received) : Type 0 where
@@ -124,19 +98,20 @@ abbrev pub RefusesLoaded : Held → ℕ → ℕ → LoadedRefusal → Type 0
 RefusesLoaded held first len NotLoaded = ¬ AreLoaded held first len
 RefusesLoaded held first len (Refused refusal) = AreLoaded held first len × OnEach held (λ m. RefusesBytes m (loaded_part held first len) refusal)
 
--- the status was sent, and what is missing was asked for: these are the frames
-pub record HasTicked (old new : KeptMember) (frames : List Outgoing) : Type 0 where
-  pub entered : Bool
-  pub answer : kept.OnEach old (λ m. answer_to_tick m ≡ Ok (entered, frames))
-  pub goes_on : GoesOn ToTick old new
-
--- and they are those that are to be sent; what is loaded stays
+-- the status was sent, and what is missing was asked for: those are the frames that are to be sent; what is loaded stays
 abbrev pub HasTickedToSend : Held → Held → Type 0
 HasTickedToSend old new = (new.loaded ≡ old.loaded) × HasTicked old.kept new.kept (frames_of new.frames)
 
--- help is asked for from a third member for what is missing of member i, or nothing is: that is what is to be sent; the member, what can be
--- read of it and what is loaded stay
-abbrev pub HasHelpToSend : Held → Held → ℕ → Type 0
-HasHelpToSend old new i =
-    (out : Option Outgoing) × OnEach old (λ m. answer_to_help m i ≡ Ok out) × (frames_of new.frames ≡ option_to_list out)
+-- a third member is asked for help, or none is: that is what is to be sent; the member, what can be read of it and what is loaded stay
+abbrev pub HasAsked : Held → Held → (MemberState → Result (Option Outgoing) HelpFault) → Type 0
+HasAsked old new answer =
+    (out : Option Outgoing) × OnEach old (λ m. answer m ≡ Ok out) × (frames_of new.frames ≡ option_to_list out)
     × (new.loaded ≡ old.loaded) × (new.kept ≡ old.kept)
+
+-- for what is missing of member i
+abbrev pub HasHelpToSend : Held → Held → ℕ → Type 0
+HasHelpToSend old new i = HasAsked old new (λ m. answer_to_help m i)
+
+-- and one of these members is asked
+abbrev pub HasHelpAmongToSend : Held → Held → ℕ → List ℕ → Type 0
+HasHelpAmongToSend old new i members = HasAsked old new (λ m. answer_to_help_among m i members)

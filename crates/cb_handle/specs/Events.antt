@@ -1,15 +1,11 @@
 -- What is shown of events.
-use Rattle.std.specs.Prelude.{◌≡◌, ℕ, ◌≤◌, Bool, true, false, List, length, map, take}
+use Rattle.std.specs.Prelude.{◌≡◌, ℕ, ◌≤◌, List, length, map, take}
 use Rattle.std.specs.List.{flat_map}
 use Rattle.cb_delay.specs.declared.message.Event.{Event}
-use Rattle.cb_delay.specs.declared.message.Event.TheVariants.{Cast, Deliver}
 use Rattle.cb_delay.specs.Message.{message_of}
+use Rattle.cb_member.specs.Kept.{is_own}
 use Rattle.cb_handle.specs.declared.rows.EventHead.{EventHead}
 use Rattle.cb_handle.specs.Copies.{placed, copied, AreMost}
-
-abbrev pub is_own : Event → Bool
-is_own (Cast message) = true
-is_own (Deliver message) = false
 
 abbrev pub event_head : Event → EventHead
 event_head event = record {

@@ -3,7 +3,6 @@ pub mod Copies
 pub mod Frames
 pub mod Events
 pub mod Entries
-pub mod Kept
 pub mod Opening
 pub mod Calling
 pub mod Parts

@@ -1,14 +1,13 @@
 -- A member that is opened, and why none is.
-use Rattle.std.specs.Prelude.{◌≡◌, ℕ, ◌<◌, ◌≤◌, List, []}
+use Rattle.std.specs.Prelude.{◌≡◌, ℕ, ◌<◌, ◌≤◌, []}
 use Rattle.cb_history.specs.declared.answer.NewFault.TheVariants as faults
-use Rattle.cb_history.specs.Facts.{EntryFields}
 use Rattle.cb_history.specs.Group.{Parameters, AreParameters}
 use Rattle.cb_history.specs.Legal.{longest_history}
+use Rattle.cb_member.specs.KeptCalls.{IsNew}
 use Rattle.cb_handle.specs.declared.held.Held.{Held}
 use Rattle.cb_handle.specs.declared.held.OpenFault.{OpenFault}
 use Rattle.cb_handle.specs.declared.held.OpenFault.TheVariants.{BadGroup, BadNew}
 use Rattle.cb_handle.specs.Frames.{frames_of}
-use Rattle.cb_handle.specs.Kept.{KeptMember, seat_of, limit_for, limit_of, Stands, events_of, entries_of}
 
 -- a history may have so many entries; none is kept where that is 0
 abbrev pub IsLimit : ℕ → Type 0
@@ -19,14 +18,6 @@ pub record MayOpen (group : Parameters) (me limit : ℕ) : Type 0 where
   pub is_group : AreParameters group
   pub is_member : me < group.size
   pub is_limit : IsLimit limit
-
--- a member without entries, with a history of this limit or with none, and nothing of it can be read
-pub record IsNew (group : Parameters) (me limit : ℕ) (kept : KeptMember) : Type 0 where
-  pub seat : seat_of kept ≡ record { group = group; me = me }
-  pub limit_is : (entries : List EntryFields) → limit_of kept entries ≡ limit_for limit entries
-  pub empty : Stands kept []
-  pub events : events_of kept ≡ []
-  pub entries : entries_of kept ≡ []
 
 -- the member without entries, no frames, and nothing loaded
 pub record IsNewOf (group : Parameters) (me limit : ℕ) (held : Held) : Type 0 where

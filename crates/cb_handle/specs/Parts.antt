@@ -1,25 +1,18 @@
 -- Parts of what is loaded, received one after another in one call.
 use Rattle.std.specs.Prelude.{◌≡◌, ◌≢◌, ◌⊎◌, ℕ, ◌+◌, ◌≤◌, Bool, List, [], ◌∷◌, ◌++◌, length, take, drop, sum, if◌then◌else◌}
+use Rattle.cb_member.specs.KeptCalls.{behind}
 use Rattle.cb_handle.specs.declared.held.Held.{Held}
 use Rattle.cb_handle.specs.declared.held.LoadedRefusal.{LoadedRefusal}
 use Rattle.cb_handle.specs.declared.held.LoadedRefusal.TheVariants.{NotLoaded}
 use Rattle.cb_handle.specs.declared.rows.Received.{Received}
 use Rattle.cb_handle.specs.Frames.{frames_of}
-use Rattle.cb_handle.specs.Kept.{KeptMember, gone}
-use Rattle.cb_member.specs.declared.recorder.taken.Received as taken
-use Rattle.cb_handle.specs.Calling.{HasReceived, HasReceivedLoaded, RefusesLoaded}
+use Rattle.cb_handle.specs.Calling.{HasReceivedLoaded, RefusesLoaded}
 
--- the member after a call, where what was there to be read before it stays in front of what it has added, also without a history
-abbrev pub behind : KeptMember → KeptMember → KeptMember
-behind before after = record after { entries = gone after before.entries ++ after.entries; events = gone after before.events ++ after.events }
-
+-- the same of what is held
 abbrev pub held_behind : Held → Held → Held
 held_behind before after = record after { kept = behind before.kept after.kept }
 
--- bytes were received as by a call of its own, and what was there to be read before it stays, where that is asked
-abbrev pub HasReceivedBehind : Bool → KeptMember → KeptMember → List ℕ → taken.Received → Type 0
-HasReceivedBehind stays old new bytes r = (after : KeptMember) × HasReceived old after bytes r × (new ≡ (if stays then behind old after else after))
-
+-- this was done, and what was there to be read before it stays, where that is asked
 abbrev pub Leaves : Bool → Held → Held → (Held → Type 0) → Type 0
 Leaves stays old new Does = (after : Held) × Does after × (new ≡ (if stays then held_behind old after else after))
 

@@ -1,11 +1,12 @@
 //! A member with the frames of its last call.
 
-ghost use Rattle.std.specs.Prelude.{◌≡◌, ◌⊎◌, ◌↔◌, ◌≤◌, [], length, drop, slice_get, map, IfOk, IfErr, OnOk, OnErr, MatchOption, Ok, Err, ◌==◌, ◌+◌, slice_range, option_map, if◌then◌else◌};
+ghost use Rattle.std.specs.Prelude.{◌≡◌, ◌⊎◌, ◌↔◌, ◌≤◌, [], length, drop, slice_get, map, IfOk, IfErr, OnOk, OnErr, MatchOption, Ok, Err, false, ◌==◌, ◌+◌, slice_range, option_map, if◌then◌else◌};
 ghost use Rattle.cb_frames.specs.Fields.{One};
 ghost use Rattle.cb_history.specs.State.{time_in, stable_in, stable_of_in, missing_in, RefusesArrival, RefusesHelp, RefusesTick};
 ghost use Rattle.cb_history.specs.Known.{ranges_of};
 ghost use Rattle.cb_history.specs.Load.{many_of};
 ghost use Rattle.cb_member.specs.Casting.{RefusesBurstExactly, RefusesExactly};
+ghost use Rattle.cb_member.specs.Helping.{may_ask_among, RefusesHelpAmong};
 ghost use Rattle.cb_member.specs.Readings.{acknowledged_by_in, keeps_window_full_in, waiting_in, waits_for_in};
 ghost use Rattle.cb_member.specs.Received.{received_says, sent_by};
 ghost use Rattle.cb_handle.specs.Copies.{copied};
@@ -15,11 +16,10 @@ ghost use Rattle.cb_handle.specs.Entries.{ShowsEntry, delayed_row, range_row};
 ghost use Rattle.cb_handle.specs.Opening.{RefusesToOpen, IsNewOf};
 ghost use Rattle.cb_handle.specs.Parts.{HasReceivedParts, Leaves, RefusesParts};
 ghost use Rattle.cb_handle.specs.Payloads.{AreThere, RefusesPayloads, burst_in};
-ghost use Rattle.cb_handle.specs.Calling.{OnEach, seat_held, events_held, entries_held, HasCastToSend, HasReceivedToSend, HasTickedToSend, HasHelpToSend, RefusesBytes, HasReceivedLoaded, RefusesLoaded, with_loaded, AreLoaded, counts_of, row_of};
+ghost use Rattle.cb_handle.specs.Calling.{OnEach, seat_held, events_held, entries_held, HasCastToSend, HasReceivedToSend, HasTickedToSend, HasHelpToSend, HasHelpAmongToSend, RefusesBytes, HasReceivedLoaded, RefusesLoaded, with_loaded, AreLoaded, counts_of, row_of};
 
 use crate::copies::{copy_front, from};
 use crate::frames::{Frames, show_frame, show_frames};
-use crate::kept::Kept;
 use crate::payloads::{are_enough, cut};
 use crate::reading::{delayed_row, entry_at, event_at, events_from, show_ranges};
 use crate::received::ReceivedBlock;
@@ -27,7 +27,8 @@ use crate::rows::{Counts, Delayed, EntryHead, EventHead, FrameHead, Name, Range,
 use bytes::Bytes;
 use cb_frames::MOST_MESSAGES;
 use cb_member::{
-    ArriveRefusal, BurstRefusal, CastRefusal, Group, HelpFault, MissingFault, NewFault, TickRefusal,
+    ArriveRefusal, BurstRefusal, CastRefusal, Group, HelpFault, Kept, MissingFault, NewFault,
+    TickRefusal,
 };
 use std::alloc::{AllocError, Global};
 
@@ -312,6 +313,30 @@ impl Held {
         ensures same { OnErr result (self.new ≡ self.old) }
     {
         match self.kept.help(member) {
+            Ok(frame) => {
+                self.frames.replace_by(alloc, frame);
+                Ok(())
+            }
+            Err(fault) => Err(fault),
+        }
+    }
+
+    /// Asks as `help` does, but the first of these members that is known to have the first missing cast. The member itself and the one
+    /// whose casts are missing are passed over among them.
+    pub fn help_among(
+        &mut self,
+        alloc: Global,
+        member: u32,
+        members: &[u32],
+    ) -> Result<(), HelpFault>
+        ensures asked { OnOk result (HasHelpAmongToSend self.old self.new member members.now) }
+        ensures refused { IfErr result (λ fault. OnEach self.old (λ m.
+            RefusesHelpAmong m member members.now fault)) }
+        ensures bad_member { (result ≡ Err HelpFault.BadMember)
+            ↔ (may_ask_among (seat_held self.old) member members.now ≡ false) }
+        ensures same { OnErr result (self.new ≡ self.old) }
+    {
+        match self.kept.help_among(member, members) {
             Ok(frame) => {
                 self.frames.replace_by(alloc, frame);
                 Ok(())

@@ -1,8 +1,8 @@
 //! What a caller outside Rattle holds of a member: a handle, the frames of the last call, and copies into the caller's memory.
 //!
-//! `Held` is a member, with its history or without one, the frames of its last call, and bytes that were loaded to be received in parts;
-//! its methods are those that the C library,
-//! `jolunza`, exports with codes for refusals. A `Handle` is a boxed `Held`, or nothing. Stands on `cb_member` and the crates below it.
+//! `Held` is a member, the `Kept` of `cb_member`, with the frames of its last call and bytes that were loaded to be received in parts; its
+//! methods are those that the C library, `jolunza`, exports with codes for refusals. A `Handle` is a boxed `Held`, or nothing. Stands on
+//! `cb_member` and the crates below it.
 #![tactic(auto)]
 
 mod copies;
@@ -10,7 +10,6 @@ mod crossing;
 mod frames;
 mod handle;
 mod held;
-mod kept;
 mod payloads;
 mod reading;
 mod received;
@@ -20,7 +19,6 @@ pub use copies::copy_front;
 pub use frames::Frames;
 pub use handle::{Handle, closed, put, take};
 pub use held::{Held, LoadedRefusal, NoneThere, OpenFault, PayloadsRefusal};
-pub use kept::Kept;
 pub use rows::{
     ARRIVE, CAST, Counts, Delayed, EntryHead, EventHead, FrameHead, Name, Range, Received, TICK,
 };

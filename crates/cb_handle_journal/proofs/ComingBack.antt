@@ -8,6 +8,7 @@ use Rattle.cb_history.specs.Facts.{EntryFields, entry_fields, facts_of}
 use Rattle.cb_history.specs.Group.{Identity}
 use Rattle.cb_history.specs.LegalHistory.{seat_in}
 use Rattle.cb_member.specs.CoreMember.{Core}
+use Rattle.cb_member.specs.Kept.{IsKept, Kept, kept_of}
 use Rattle.cb_journal.specs.declared.fault.ReadFault.{ReadFault}
 use Rattle.cb_journal.specs.declared.fault.ReadFault.TheVariants as reads
 use Rattle.cb_journal.specs.declared.reading.Journal.{Journal}
@@ -17,7 +18,6 @@ use Rattle.cb_replay.specs.declared.fault.ResumeFault as replay
 use Rattle.cb_replay.specs.declared.fault.ResumeFault.TheVariants as replays
 use Rattle.cb_handle.specs.declared.held.Held.{Held}
 use Rattle.cb_handle.specs.Frames.{frames_of}
-use Rattle.cb_handle.specs.Kept.{IsKept, KeptMember, kept_of}
 use Rattle.cb_handle_journal.specs.declared.fault.ResumeFault.{ResumeFault}
 use Rattle.cb_handle_journal.specs.declared.fault.ResumeFault.TheVariants.{NoHead, BadLine, BadLimit, TooLong, NotLegal, NoMemory}
 use Rattle.cb_handle_journal.specs.Faults.{fault_of_read, fault_of_replay}
@@ -90,7 +90,7 @@ module _ (bytes : List ℕ) (limit : ℕ) (journal : Journal) (is : IsRead bytes
   }
   not_taken NoMemory room h = tt
 
-  pub is_back : (kept : KeptMember) (held : Held) → HasRoom limit (length items) → SaysKept (seat_in journal.history) limit (entries_in journal) (Ok kept) → held.kept ≡ kept
+  pub is_back : (kept : Kept) (held : Held) → HasRoom limit (length items) → SaysKept (seat_in journal.history) limit (entries_in journal) (Ok kept) → held.kept ≡ kept
       → frames_of held.frames ≡ [] → held.loaded ≡ [] → IsResumed bytes limit held journal.read
   is_back kept held room says same none silent = record {
     seat = seat_in journal.history;

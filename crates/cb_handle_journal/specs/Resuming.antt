@@ -6,13 +6,13 @@ use Rattle.cb_history.specs.Events.{events}
 use Rattle.cb_history.specs.Facts.{EntryFields, facts_of}
 use Rattle.cb_history.specs.Group.{Identity}
 use Rattle.cb_history.specs.Legal.{AreEntriesOf}
+use Rattle.cb_member.specs.Kept.{Kept, Stands, entries_of, events_of, seat_of}
 use Rattle.cb_lines.specs.Text.{line_feed}
 use Rattle.cb_journal.specs.Journal.{IsJournal, journal_text}
 use Rattle.cb_journal.specs.Reading.{IsFirstBadLine}
 use Rattle.cb_replay.specs.Returning.{IsFirstNotAdded}
 use Rattle.cb_handle.specs.declared.held.Held.{Held}
 use Rattle.cb_handle.specs.Frames.{frames_of}
-use Rattle.cb_handle.specs.Kept.{KeptMember, Stands, entries_of, events_of, seat_of}
 use Rattle.cb_handle.specs.Opening.{IsLimit}
 use Rattle.cb_handle_journal.specs.declared.fault.ResumeFault.{ResumeFault}
 use Rattle.cb_handle_journal.specs.declared.fault.ResumeFault.TheVariants.{NoHead, BadLine, BadLimit, TooLong, NotLegal, NoMemory}
@@ -37,7 +37,7 @@ abbrev pub AreEvents : Identity → List EntryFields → List Event → Type 0
 AreEvents seat entries told = told ≡ events seat (facts_of entries)
 
 -- the member that did what these entries tell: all of them and all their events are there to be read, also where it keeps no history
-pub record IsMemberOf (seat : Identity) (limit : ℕ) (entries : List EntryFields) (kept : KeptMember) : Type 0 where
+pub record IsMemberOf (seat : Identity) (limit : ℕ) (entries : List EntryFields) (kept : Kept) : Type 0 where
   pub seat_is : seat_of kept ≡ seat
   pub limit_is : kept.limit ≡ limit
   pub stands : Stands kept entries
@@ -95,6 +95,6 @@ SaysResumed bytes limit (Ok resumed) = IsResumed bytes limit resumed.held resume
 SaysResumed bytes limit (Err fault) = RefusesToResume bytes limit fault
 
 -- where the limit has room for the entries
-abbrev pub SaysKept : Identity → ℕ → List EntryFields → Result KeptMember ResumeFault → Type 0
+abbrev pub SaysKept : Identity → ℕ → List EntryFields → Result Kept ResumeFault → Type 0
 SaysKept seat limit entries (Ok kept) = AreEntriesOf seat entries × IsMemberOf seat limit entries kept
 SaysKept seat limit entries (Err fault) = RefusesEntries seat entries fault

@@ -8,9 +8,9 @@ ghost use Rattle.cb_handle_journal.specs.Resuming.{HasRoom, Misfits, SaysKept, S
 
 use crate::fault::{ResumeFault, of_reading, of_taking};
 use crate::taking::take_history;
-use cb_handle::{Held, Kept};
+use cb_handle::Held;
 use cb_journal::{Journal, read_journal};
-use cb_member::{History, LONGEST_HISTORY};
+use cb_member::{History, Kept, LONGEST_HISTORY};
 use std::alloc::Global;
 
 /// A member that came back by its journal.

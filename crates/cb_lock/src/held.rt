@@ -236,7 +236,7 @@ impl<L: Ledger> Held<L> {
         let Seat { receipts, share } = seat;
         book.audit(share);
         make_room(receipts, 1)?;
-        let (out, noted) = member.receive_noted(bytes)?;
+        let (out, noted) = member.receive_noted(&bytes)?;
         enter(member, book, receipts, share, noted);
         Ok(out)
     }

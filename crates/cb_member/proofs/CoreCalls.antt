@@ -1,50 +1,47 @@
 -- What a core answers to its own calls: casts and ticks.
-use Rattle.std.proofs.Common.{◌≡◌, ℕ, ◌≤◌, Bool, true, false, ◌&&◌, leb, List, [], ◌∷◌, ◌++◌, length, map, Option, Some, None, Result, Ok, Err, refl, sym, ap, subst, ◌∙◌, arith, inr}
-use Rattle.std.specs.Prelude.{IfOk, IsOk, OnOk, option_map, if◌then◌else◌}
+use Rattle.std.proofs.Common.{◌≡◌, ℕ, ◌≤◌, Bool, true, false, ◌&&◌, leb, List, [], ◌∷◌, ◌++◌, length, drop, map, Option, Some, None, Result, Ok, Err, refl, sym, ap, subst, ◌∙◌, arith, inr}
+use Rattle.std.specs.Prelude.{IsOk, option_map, if◌then◌else◌}
+use Rattle.std.proofs.Math.Seq.{drop-append_seam}
 use Rattle.std.proofs.lemmas.Bool.{lt-leb}
 use Rattle.cb_frames.specs.declared.frame.TheConstants.{MOST_MESSAGES}
-use Rattle.cb_frames.specs.Fields.{Load, StatusFrame}
+use Rattle.cb_frames.specs.Fields.{Load, CastFields, StatusFrame}
 use Rattle.cb_frames.specs.Text.{text_of}
 use Rattle.cb_delay.specs.declared.message.Event.{Event}
 use Rattle.cb_delay.specs.declared.message.Event.TheVariants as events
-use Rattle.cb_history.specs.declared.answer.BurstDone.{BurstDone}
-use Rattle.cb_history.specs.declared.answer.CastDone.{CastDone}
 use Rattle.cb_history.specs.declared.answer.Outgoing.{Outgoing}
 use Rattle.cb_history.specs.declared.answer.TickRefusal.{TickRefusal}
 use Rattle.cb_history.specs.declared.answer.TickRefusal.TheVariants as ticks
-use Rattle.cb_history.specs.declared.answer.Ticked.{Ticked}
 use Rattle.cb_history.specs.declared.history.Entry.{Entry}
 use Rattle.cb_history.specs.declared.history.Entry.TheVariants as entries
 use Rattle.cb_history.specs.CastFault.{CastFault, IsFault}
-use Rattle.cb_history.specs.EventLaws.{new_events}
 use Rattle.cb_history.specs.Facts.{EntryFields, Fact, OwnCast, OwnStatus, CastEntry, TickEntry, cast_said, entry_fields, facts_of, status_said}
 use Rattle.cb_history.specs.Answers.{is_new_status, next_cast, requests, status_of, tick_answer}
 use Rattle.cb_history.specs.Legal.{ToCast, ToTick, cast_entry, room_for_one, tick_entry}
 use Rattle.cb_history.specs.LegalFacts.{AreFactsOf}
-use Rattle.cb_history.specs.State.{MemberState, HasCast, HasCastBurst, answer_to_cast, answer_to_tick, entry_by, facts_in, next_in, state_after}
+use Rattle.cb_history.specs.State.{MemberState, answer_to_cast, answer_to_tick, entry_by}
 use Rattle.cb_history.proofs.ReadBack.{cast_read, status_read}
 use Rattle.cb_history.proofs.Requests.{own_frames_have_texts}
 use Rattle.cb_history.proofs.Written.{fitting_can}
 use Rattle.cb_member.specs.declared.own_cast.Casting.{Casting}
 use Rattle.cb_member.specs.declared.state.State.{State}
-use Rattle.cb_member.specs.Casting.{CanCast, CanKeepCast, HasKept, IsCasting, IsSameButBlock, JudgesLoad, MakesCasting, RefusesLoad, as_cast_done, messages_made, next_text, time_of_last}
-use Rattle.cb_member.specs.CoreCalls.{AnswersBurstOnEach, AnswersCastOnEach, AnswersLoad, AnswersLoadInto, AnswersTickOnEach, CanKeepOnEach, CastsOnEach, HasJoinedMade, HasKeptMade, JoinsCastOnEach, MayCast}
+use Rattle.cb_member.specs.declared.wanted.Made.{Made}
+use Rattle.cb_member.specs.declared.wanted.Told.{Told}
+use Rattle.cb_member.specs.declared.wanted.Wanted.{Wanted}
+use Rattle.cb_member.specs.Asked.{wants_answer, wants_entry}
+use Rattle.cb_member.specs.Casting.{CanCast, CanKeepCast, HasKept, IsCasting, IsSameButBlock, JudgesLoad, MakesCasting, RefusesLoad, messages_made, next_text, time_of_last}
+use Rattle.cb_member.specs.CoreCalls.{AnswersLoadInto, AnswersTickOnEach, CanKeepOnEach, HasCastWith, HasJoinedMade, JoinsCastOnEach, MayCast, added}
 use Rattle.cb_member.specs.CoreMember.{Core, GoesOn, IsCore, OnEach, StandsFor, core_of, unlimited}
 use Rattle.cb_member.specs.State.{Keeps, OnAll}
 use Rattle.cb_member.specs.Telling.{HasReported}
 use Rattle.cb_member.proofs.Cores.{Grows, core_goes_on, facts_follow, facts_stand, goes_on_none, is_state, keeps_of, one_is_left, same_but_block, stands_then}
 use Rattle.cb_member.proofs.Judging.{casts_next, few_for}
-use Rattle.cb_member.proofs.Recording.{burst_told, can_keep_made, cast_told, is_ok_of, made_events, made_last, made_many}
+use Rattle.cb_member.proofs.Made.{burst_told, can_keep_made, made_events, made_last, made_many}
 
 -- ---- casts that are refused
 
-pub refuses_load : {D R : Type 0} (Has : MemberState → MemberState → Load → D → Type 0) (Refuses : MemberState → Load → R → Type 0) (load : Load) (old new : Core) (refusal : R) → IsCore old → new ≡ old
-    → OnEach old (λ m. Refuses m load refusal) → AnswersLoad Has Refuses load old new (Err refusal)
-refuses_load Has Refuses load old new refusal is same refuses = record { core = subst IsCore (sym same) is; casts = tt; refused = refuses; same = same }
-
-pub refuses_load_into : {R : Type 0} (Refuses : MemberState → Load → R → Type 0) (load : Load) (old new : Core) (before after : List Event) (refusal : R) → IsCore old → new ≡ old → after ≡ before
-    → OnEach old (λ m. Refuses m load refusal) → AnswersLoadInto Refuses load old new before after (Err refusal)
-refuses_load_into Refuses load old new before after refusal is same same_events refuses =
+pub refuses_load_into : {R : Type 0} (Refuses : MemberState → Load → R → Type 0) (wanted : Wanted) (load : Load) (old new : Core) (before after : List Event) (refusal : R) → IsCore old → new ≡ old → after ≡ before
+    → OnEach old (λ m. Refuses m load refusal) → AnswersLoadInto Refuses wanted load old new before after (Err refusal)
+refuses_load_into Refuses wanted load old new before after refusal is same same_events refuses =
     record { core = subst IsCore (sym same) is; casts = tt; refused = refuses; same = same; same_events = same_events }
 
 -- what is judged of a load is so on each history
@@ -54,6 +51,9 @@ refused_load core load told refuses entries s = refuses (facts_of entries) (fact
 pub cast_next : (core : State) (load : Load) (entries : List EntryFields) → CanCast core load → StandsFor entries (core_of core)
     → answer_to_cast (unlimited core.seat entries) load ≡ Ok (next_cast core.seat (facts_of entries) load)
 cast_next core load entries can s = casts_next core (room_for_one entries) entries load (facts_stand core entries s) (keeps_of core entries s) can (one_is_left entries)
+
+is_ok_of : (a : Result CastFields CastFault) (c : CastFields) → a ≡ Ok c → IsOk a
+is_ok_of a c is = rw is refl
 
 -- so out of memory stands in place of a cast
 pub may_be_cast : (core : State) (load : Load) → CanCast core load → OnEach (core_of core) (λ m. IsOk (answer_to_cast m load))
@@ -134,73 +134,50 @@ module _ (load : Load) (old new : State) (casting : Casting) (frame time : List 
   pub kept_is_core : IsCore (core_of new)
   kept_is_core = core_goes_on (ToCast load) (core_of old) (core_of new) c.can.core goes_on
 
-  pub casts_so : CastsOnEach HasCastBurst load (core_of old) (core_of new) (record { first = casting.first.name; count = count; time = casting.first.time; out = casting.out }, entries.Cast frame)
-  casts_so = record {
-    goes_on = goes_on;
-    done = λ es s. record { answer = answer es s; reported = burst_told old.seat (facts_of es) load casting casting.first.time count (made es s) refl c.many; after = refl };
-    entry = entered;
-  }
-
-  -- where the events are those of its messages
-  pub joins_so : (before after : List Event) → after ≡ before ++ map (λ m. events.Cast m) (messages_made casting) → JoinsCastOnEach load (core_of old) (core_of new) before after (casting.out, entries.Cast frame)
-  joins_so before after joined = record {
+  -- the events are those of its messages
+  pub joins_so : (wanted : Wanted) (before after : List Event) (copy : Option (List ℕ)) (noted : Option (List ℕ)) → after ≡ before ++ map (λ m. events.Cast m) (messages_made casting)
+      → (wants_answer wanted ≡ true → copy ≡ Some casting.first.time) → (wants_entry wanted ≡ true → noted ≡ Some casting.out)
+      → JoinsCastOnEach wanted load (core_of old) (core_of new) before after (record { first = casting.first.name; count = count; time = copy; out = casting.out; noted = noted }, frame)
+  joins_so wanted before after copy noted joined copied noted_so = record {
     goes_on = goes_on;
     answer = answer;
     frame = λ es s. (made es s).out;
     entry = entered;
     joins = λ es s. joined ∙ ap (λ (more : List Event). before ++ more) (made_events old.seat (facts_of es) load casting (made es s) (follows es s));
+    told = λ want. record {
+      time = casting.first.time;
+      time_is = copied want;
+      done = λ es s. burst_told old.seat (facts_of es) load casting casting.first.time count (made es s) refl c.many;
+    };
+    noted = λ want. noted_so want ∙ ap (λ (text : List ℕ). Some text) (sym c.copied);
   }
 
 -- ---- what is answered
 
-pub answers_burst : (load : Load) (old mid : State) (new : Core) (noted : BurstDone × Entry) {E : Type 0} → IsSameButBlock old mid → HasKeptMade {E = E} load (core_of mid) new (Ok noted) → AnswersBurstOnEach load (core_of old) new (Ok noted)
-answers_burst load old mid new noted block kept = record {
-  core = kept.core;
-  casts = subst (λ (core : Core). CastsOnEach HasCastBurst load core new noted) (same_but_block old mid block) kept.casts;
-  refused = tt;
-  same = tt;
-}
-
--- of one message
-pub answers_cast : (load : Load) (old mid : State) (new : Core) (noted : BurstDone × Entry) (done : CastDone) {E : Type 0} → done ≡ as_cast_done noted.0 → IsSameButBlock old mid → HasKeptMade {E = E} load (core_of mid) new (Ok noted)
-    → AnswersCastOnEach load (core_of old) new (Ok (done, noted.1))
-answers_cast load old mid new noted done is block kept =
-    let casts = subst (λ (core : Core). CastsOnEach HasCastBurst load core new noted) (same_but_block old mid block) kept.casts in
-    record {
-      core = kept.core;
-      casts = record {
-        goes_on = casts.goes_on;
-        done = λ es s. subst (HasCast (unlimited old.seat es) (state_after (unlimited old.seat es) (ToCast load)) load) (sym is) (cast_told (unlimited old.seat es) (state_after (unlimited old.seat es) (ToCast load)) load noted.0 (casts.done es s));
-        entry = casts.entry;
-      };
-      refused = tt;
-      same = tt;
-    }
-
-pub answers_into : {R E : Type 0} (Refuses : MemberState → Load → R → Type 0) (load : Load) (old mid : State) (new : Core) (before after : List Event) (cast : List ℕ × Entry) → IsSameButBlock old mid
-    → HasJoinedMade {E = E} load (core_of mid) new before after (Ok cast) → AnswersLoadInto Refuses load (core_of old) new before after (Ok cast)
-answers_into Refuses load old mid new before after cast block joined = record {
+pub answers_into : {R E : Type 0} (Refuses : MemberState → Load → R → Type 0) (wanted : Wanted) (load : Load) (old mid : State) (new : Core) (before after : List Event) (cast : Made × List ℕ) → IsSameButBlock old mid
+    → HasJoinedMade {E = E} wanted load (core_of mid) new before after (Ok cast) → AnswersLoadInto Refuses wanted load (core_of old) new before after (Ok cast)
+answers_into Refuses wanted load old mid new before after cast block joined = record {
   core = joined.core;
-  casts = subst (λ (core : Core). JoinsCastOnEach load core new before after cast) (same_but_block old mid block) joined.casts;
+  casts = subst (λ (core : Core). JoinsCastOnEach wanted load core new before after cast) (same_but_block old mid block) joined.casts;
   refused = tt;
   same = tt;
   same_events = tt;
 }
 
-pub is_answered : {R : Type 0} (load : Load) (old new : Core) (before after : List Event) (result : Result (List ℕ × Entry) R) → IfOk result (JoinsCastOnEach load old new before after)
-    → OnOk result (OnEach old (λ m. answer_to_cast m load ≡ Ok (next_in m load)))
-is_answered load old new before after (Ok cast) is = is.answer
-is_answered load old new before after (Err refusal) is = tt
-
-pub is_joined : {R : Type 0} (load : Load) (old new : Core) (before after : List Event) (result : Result (List ℕ × Entry) R) → IfOk result (JoinsCastOnEach load old new before after)
-    → OnOk result (OnEach old (λ m. after ≡ before ++ new_events m.seat (facts_in m) (OwnCast (next_in m load))))
-is_joined load old new before after (Ok cast) is = is.joins
-is_joined load old new before after (Err refusal) is = tt
+-- the definition casts it
+pub has_cast : (wanted : Wanted) (load : Load) (old new : Core) (before after : List Event) (cast : Made × List ℕ) (frame : List ℕ) → JoinsCastOnEach wanted load old new before after cast → frame ≡ cast.0.out
+    → OnEach old (λ m. HasCastWith m load (frame, entries.Cast cast.1) (added before after))
+has_cast wanted load old new before after cast frame joins is es s = record {
+  answer = joins.answer es s;
+  frame = is ∙ joins.frame es s;
+  entry = joins.entry es s;
+  events_are = ap (drop (length before)) (joins.joins es s) ∙ drop-append_seam before _;
+}
 
 -- ---- ticks
 
-pub refuses_tick : (core : Core) (refusal : TickRefusal) → IsCore core → refusal ≡ ticks.NoMemory → AnswersTickOnEach core core (Err refusal)
-refuses_tick core refusal is memory = record { core = is; ticks = tt; refused = λ es s. inr memory; same = refl }
+pub refuses_tick : (wanted : Wanted) (core : Core) (refusal : TickRefusal) → IsCore core → refusal ≡ ticks.NoMemory → AnswersTickOnEach wanted core core (Err refusal)
+refuses_tick wanted core refusal is memory = record { core = is; ticks = tt; refused = λ es s. inr memory; same = refl }
 
 fits : (is_new : Bool) (es : List EntryFields) → (is_new && leb (room_for_one es) (length es)) ≡ false
 fits true es = lt-leb (room_for_one es) (length es) (one_is_left es)
@@ -252,13 +229,16 @@ module _ (old : State) (is_new : Bool) (bytes : List ℕ) (out : List Outgoing) 
   goes_on_silent off =
       goes_on_none ToTick (core_of old) (λ es s. tick_entered es s ∙ t.entry_is ∙ ap (λ (b : Bool). if b then Some (TickEntry bytes) else None) off)
 
-  pub ticks_so : (new : State) (ticked : Ticked) → ticked.entered ≡ is_new → ticked.out.items ≡ out → GoesOn ToTick (core_of old) (core_of new) → AnswersTickOnEach (core_of old) (core_of new) (Ok (ticked, entry))
-  ticks_so new ticked entered sent goes = record {
+  pub ticks_so : (wanted : Wanted) (new : State) (told : Told) → told.ticked.entered ≡ is_new → told.ticked.out.items ≡ out
+      → (wants_entry wanted ≡ true → option_map entry_fields told.noted ≡ option_map entry_fields entry)
+      → GoesOn ToTick (core_of old) (core_of new) → AnswersTickOnEach wanted (core_of old) (core_of new) (Ok (told, entry))
+  ticks_so wanted new told entered sent copy goes = record {
     core = core_goes_on ToTick (core_of old) (core_of new) t.core goes;
     ticks = record {
       goes_on = goes;
       done = λ es s. record { answer = rw (entered, sent) (tick_answered es s); after = refl };
       entry = tick_entered;
+      noted = copy;
     };
     refused = tt;
     same = tt;

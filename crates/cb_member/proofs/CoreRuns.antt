@@ -1,15 +1,15 @@
 -- After any calls a core stands for their history.
-use Rattle.std.proofs.Common.{◌≡◌, ◌⊎◌, List, [], length, Result, Ok, Err, refl, sym, ap, subst, ◌∙◌, arith, inl, inr}
+use Rattle.std.proofs.Common.{◌≡◌, ℕ, ◌⊎◌, List, [], length, Result, Ok, Err, refl, sym, ap, subst, ◌∙◌, arith, inl, inr}
 use Rattle.std.specs.Prelude.{IsOk, is_ok}
 use Rattle.std.proofs.lemmas.Bool.{both_ways}
 use Rattle.cb_frames.specs.Fields.{Load, CastFields, payloads_of}
 use Rattle.cb_times.specs.Order.{field}
-use Rattle.cb_history.specs.declared.answer.BurstDone.{BurstDone}
 use Rattle.cb_history.specs.declared.answer.BurstRefusal.{BurstRefusal}
 use Rattle.cb_history.specs.declared.answer.BurstRefusal.TheVariants as bursts
-use Rattle.cb_history.specs.declared.answer.CastDone.{CastDone}
 use Rattle.cb_history.specs.declared.answer.CastRefusal.{CastRefusal}
 use Rattle.cb_history.specs.declared.answer.CastRefusal.TheVariants as casts
+use Rattle.cb_delay.specs.declared.message.Event.{Event}
+use Rattle.cb_history.specs.declared.history.Entry.{Entry}
 use Rattle.cb_history.specs.CastFault.{CastFault, WindowFull, TellsBurstFaultOf, TellsFaultOf}
 use Rattle.cb_history.specs.Group.{Identity}
 use Rattle.cb_history.specs.Facts.{EntryFields, facts_of}
@@ -26,20 +26,20 @@ use Rattle.cb_member.proofs.Judging.{window_full}
 -- ---- calls one after another
 
 seat_after : (a : AnsweredCall) (old new : Core) → GoesOnOrStays a old new → new.seat ≡ old.seat
-seat_after (Cast load (Ok done)) old new goes = goes.seat
-seat_after (Cast load (Err refusal)) old new same = ap (λ (c : Core). c.seat) same
-seat_after (Burst load (Ok done)) old new goes = goes.seat
-seat_after (Burst load (Err refusal)) old new same = ap (λ (c : Core). c.seat) same
+seat_after (Cast load (Ok cast) events) old new goes = goes.seat
+seat_after (Cast load (Err refusal) events) old new same = ap (λ (c : Core). c.seat) same
+seat_after (Burst load (Ok cast) events) old new goes = goes.seat
+seat_after (Burst load (Err refusal) events) old new same = ap (λ (c : Core). c.seat) same
 seat_after (Take bytes (Ok received) messages) old new goes = goes.seat
 seat_after (Take bytes (Err refusal) messages) old new same = ap (λ (c : Core). c.seat) same
 seat_after (Tick (Ok ticked)) old new goes = goes.seat
 seat_after (Tick (Err refusal)) old new same = ap (λ (c : Core). c.seat) same
 
 stands_after : (a : AnsweredCall) (old new : Core) (entries : List EntryFields) → GoesOnOrStays a old new → StandsFor entries old → StandsFor (history_with old.seat entries a) new
-stands_after (Cast load (Ok done)) old new entries goes s = goes.stands entries s
-stands_after (Cast load (Err refusal)) old new entries same s = subst (StandsFor entries) (sym same) s
-stands_after (Burst load (Ok done)) old new entries goes s = goes.stands entries s
-stands_after (Burst load (Err refusal)) old new entries same s = subst (StandsFor entries) (sym same) s
+stands_after (Cast load (Ok cast) events) old new entries goes s = goes.stands entries s
+stands_after (Cast load (Err refusal) events) old new entries same s = subst (StandsFor entries) (sym same) s
+stands_after (Burst load (Ok cast) events) old new entries goes s = goes.stands entries s
+stands_after (Burst load (Err refusal) events) old new entries same s = subst (StandsFor entries) (sym same) s
 stands_after (Take bytes (Ok received) messages) old new entries goes s = goes.stands entries s
 stands_after (Take bytes (Err refusal) messages) old new entries same s = subst (StandsFor entries) (sym same) s
 stands_after (Tick (Ok ticked)) old new entries goes s = goes.stands entries s
@@ -86,21 +86,21 @@ burst_refused_so answer bursts.NoMemory full (inl says) = absurd says
 burst_refused_so answer refusal full (inr memory) = absurd (both_ways (is_ok answer) (ap is_ok full) memory.1)
 
 module _ (seat : Identity) (entries : List EntryFields) (load : Load) (full : answer_to_cast (unlimited seat entries) load ≡ Err WindowFull) where
-  cast_is_full : (r : Result CastDone CastRefusal) → IsAnswered (unlimited seat entries) (Cast load r) → r ≡ Err casts.WindowFull
-  cast_is_full (Ok done) says = absurd (not_both (answer_to_cast (unlimited seat entries) load) _ full says.answer)
-  cast_is_full (Err refusal) says =
-      ap (λ (x : CastRefusal). let r : Result CastDone CastRefusal = Err x in r) (refused_so (answer_to_cast (unlimited seat entries) load) refusal full says)
+  cast_is_full : (r : Result (List ℕ × Entry) CastRefusal) (events : List Event) → IsAnswered (unlimited seat entries) (Cast load r events) → r ≡ Err casts.WindowFull
+  cast_is_full (Ok cast) events says = absurd (not_both (answer_to_cast (unlimited seat entries) load) _ full says.answer)
+  cast_is_full (Err refusal) events says =
+      ap (λ (x : CastRefusal). let r : Result (List ℕ × Entry) CastRefusal = Err x in r) (refused_so (answer_to_cast (unlimited seat entries) load) refusal full says)
 
-  burst_is_full : (r : Result BurstDone BurstRefusal) → IsAnswered (unlimited seat entries) (Burst load r) → r ≡ Err bursts.WindowFull
-  burst_is_full (Ok done) says = absurd (not_both (answer_to_cast (unlimited seat entries) load) _ full says.answer)
-  burst_is_full (Err refusal) says =
-      ap (λ (x : BurstRefusal). let r : Result BurstDone BurstRefusal = Err x in r) (burst_refused_so (answer_to_cast (unlimited seat entries) load) refusal full says)
+  burst_is_full : (r : Result (List ℕ × Entry) BurstRefusal) (events : List Event) → IsAnswered (unlimited seat entries) (Burst load r events) → r ≡ Err bursts.WindowFull
+  burst_is_full (Ok cast) events says = absurd (not_both (answer_to_cast (unlimited seat entries) load) _ full says.answer)
+  burst_is_full (Err refusal) events says =
+      ap (λ (x : BurstRefusal). let r : Result (List ℕ × Entry) BurstRefusal = Err x in r) (burst_refused_so (answer_to_cast (unlimited seat entries) load) refusal full says)
 
 pub no_number_is_left : NoNumberIsLeft
 no_number_is_left load old new is fits past =
     let s = is.stands in
     let many = no_number_is_full old.seat (facts_of is.entries) (length (payloads_of load)) (omega (arith, past, counted is.entries old s)) in
     let full = window_full old.seat (room_for_one is.entries) is.entries load fits many in (
-      λ result call. cast_is_full old.seat is.entries load full result (call.answered is.entries s),
-      λ result call. burst_is_full old.seat is.entries load full result (call.answered is.entries s),
+      λ result events call. cast_is_full old.seat is.entries load full result events (call.answered is.entries s),
+      λ result events call. burst_is_full old.seat is.entries load full result events (call.answered is.entries s),
     )

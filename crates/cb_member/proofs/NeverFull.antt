@@ -1,5 +1,5 @@
 -- A history that always has room for one entry more is never full.
-use Rattle.std.proofs.Common.{◌≡◌, ◌≢◌, ℕ, Bool, true, false, ◌&&◌, not, ◌==◌, List, [], length, Option, Result, Ok, Err, subst, inl, inr}
+use Rattle.std.proofs.Common.{◌≡◌, ◌≢◌, ℕ, Bool, true, false, ◌&&◌, not, ◌==◌, List, [], length, Result, Ok, Err, subst, inl, inr}
 use Rattle.std.specs.Prelude.{IfErr, if◌then◌else◌, nat_lt}
 use Rattle.std.proofs.lemmas.Bool.{lt-leb}
 use Rattle.cb_frames.specs.declared.frame.TheConstants.{LONGEST_PAYLOAD, MOST_MESSAGES}
@@ -15,8 +15,6 @@ use Rattle.cb_history.specs.declared.answer.CastRefusal.TheVariants as casts
 use Rattle.cb_history.specs.declared.answer.Outgoing.{Outgoing}
 use Rattle.cb_history.specs.declared.answer.TickRefusal.{TickRefusal}
 use Rattle.cb_history.specs.declared.answer.TickRefusal.TheVariants as ticks
-use Rattle.cb_history.specs.declared.answer.Ticked.{Ticked}
-use Rattle.cb_history.specs.declared.history.Entry.{Entry}
 use Rattle.cb_history.specs.CastFault.{CastFault, EmptyBurst, BurstTooLong, PayloadTooLong, WindowFull, HistoryFull}
 use Rattle.cb_history.specs.Group.{Identity}
 use Rattle.cb_history.specs.Facts.{EntryFields, facts_of}
@@ -24,7 +22,7 @@ use Rattle.cb_history.specs.Answers.{ArrivalSays, Accepted, Repeat, answer_to, a
 use Rattle.cb_history.specs.Legal.{room_for_one}
 use Rattle.cb_history.specs.State.{RefusesArrival, RefusesTick}
 use Rattle.cb_member.specs.Casting.{RefusesBurstExactly, RefusesExactly}
-use Rattle.cb_member.specs.CoreCalls.{AnswersTickOnEach, RefusesWithin}
+use Rattle.cb_member.specs.CoreCalls.{RefusesWithin}
 use Rattle.cb_member.specs.CoreMember.{Core, IsCore, OnEach, unlimited}
 use Rattle.cb_member.proofs.CoreArrivals.{without_limit}
 use Rattle.cb_member.proofs.Cores.{one_is_left}
@@ -91,9 +89,9 @@ no_full_tick : (seat : Identity) (es : List EntryFields) → RefusesTick (unlimi
 no_full_tick seat es (inl says) = tick_answer_not_full seat es says
 no_full_tick seat es (inr memory) = absurd cc
 
-pub tick_never_full : (old new : Core) (result : Result (Ticked × Option Entry) TickRefusal) → IsCore old → AnswersTickOnEach old new result → result ≢ Err ticks.HistoryFull
-tick_never_full old new result is answers =
-    never (λ refusal. OnEach old (λ m. RefusesTick m refusal)) ticks.HistoryFull result (λ all. no_full_tick old.seat is.entries (all is.entries is.stands)) answers.refused
+pub tick_never_full : {A : Type 0} (core : Core) (result : Result A TickRefusal) → IsCore core → IfErr result (λ refusal. OnEach core (λ m. RefusesTick m refusal)) → result ≢ Err ticks.HistoryFull
+tick_never_full core result is refused =
+    never (λ refusal. OnEach core (λ m. RefusesTick m refusal)) ticks.HistoryFull result (λ all. no_full_tick core.seat is.entries (all is.entries is.stands)) refused
 
 -- ---- received bytes
 

@@ -1,5 +1,5 @@
 -- A member without entries: what is kept is what no facts say.
-use Rattle.std.proofs.Common.{◌≡◌, ℕ, zero, suc, ◌+◌, ◌≤◌, List, [], ◌∷◌, length, map, replicate, Some, None, refl, sym, ap, subst, ◌∙◌, arith, All}
+use Rattle.std.proofs.Common.{◌≡◌, ℕ, zero, suc, ◌+◌, List, [], ◌∷◌, length, map, replicate, Some, None, refl, sym, ap, subst, ◌∙◌, arith, All}
 use Rattle.std.specs.Prelude.{slice_get}
 use Rattle.std.specs.FinMap as fin
 use Rattle.std.specs.List.{AllByRecursion, range_with_len}
@@ -9,12 +9,8 @@ use Rattle.cb_times.specs.Order.{field}
 use Rattle.cb_delay.specs.Queue.{Queue, IsNew}
 use Rattle.cb_gaps.specs.Buffer as buffers
 use Rattle.cb_gaps.specs.Buffer.{Buffer}
-use Rattle.cb_history.specs.declared.history.Entry.{Entry}
 use Rattle.cb_history.specs.Group.{Identity, IsIdentity}
-use Rattle.cb_history.specs.Facts.{entry_fields, facts_of}
 use Rattle.cb_history.specs.View.{count, view, time_of}
-use Rattle.cb_history.specs.Events.{events}
-use Rattle.cb_history.specs.Legal.{longest_history, NoEntries}
 use Rattle.cb_history.specs.LegalFacts.{AreFactsOf, NoFacts}
 use Rattle.cb_history.specs.QueueLaws.{HoldsUndelivered}
 use Rattle.cb_history.proofs.Acknowledged.{acknowledged_is_delivered}
@@ -26,14 +22,12 @@ use Rattle.cb_member.specs.declared.reception.Reception.{Reception}
 use Rattle.cb_member.specs.declared.knowledge.Knowledge.{Knowledge}
 use Rattle.cb_member.specs.declared.sending.Sending.{Sending}
 use Rattle.cb_member.specs.declared.state.State.{State}
-use Rattle.cb_member.specs.declared.recorder.Recorder.{Recorder}
 use Rattle.cb_member.specs.Delivery.{IsNewDelivery}
 use Rattle.cb_member.specs.Reception.{AreSparesOf, IsNewReception, HasReceivedAll}
 use Rattle.cb_member.specs.Knowledge.{IsNewKnowledge, KnowsFacts}
 use Rattle.cb_member.specs.Relaying.{KeepsAllRelays}
 use Rattle.cb_member.specs.Sending.{IsNewSending, HasSent}
 use Rattle.cb_member.specs.State.{HasDelivered, IsNewState, Keeps}
-use Rattle.cb_member.specs.Recorder.{IsKept, IsNewRecorder}
 
 no_facts : (seat : Identity) → IsIdentity seat → AreFactsOf seat []
 no_facts seat is = record { group = is.group; member = is.member; facts_are = NoFacts }
@@ -134,22 +128,3 @@ new_keeps seat state is new = record {
   sent = subst (λ (s : Identity). HasSent s [] state.sending) (sym new.of_seat) (nothing_sent seat state.sending is new.sending);
   relayed = subst (λ (s : Identity). KeepsAllRelays s [] state.relays.items) (sym new.of_seat) new.relays;
 }
-
-no_events : (seat : Identity) → events seat [] ≡ []
-unfolding view
-no_events seat = refl
-
-pub starts : (seat : Identity) (limit : ℕ) (r : Recorder) → IsIdentity seat → 1 ≤ limit → limit ≤ longest_history → IsNewRecorder seat limit r → IsKept r
-starts seat limit r is low high new =
-    let here : IsIdentity r.state.seat = subst (λ (s : Identity). IsIdentity s) (sym new.state_is.of_seat) is in
-    let same = new.of_limit in
-    record {
-      state_is = rw new.none (record {
-        legal = record { group = here.group; member = here.member; entries_are = NoEntries; few = omega arith };
-        one_or_more = omega (arith, same, low);
-        at_most = omega (arith, same, high);
-        room = omega arith;
-      });
-      keeps = subst (λ (es : List Entry). Keeps (facts_of (map entry_fields es)) r.state) (sym new.none) (new_keeps seat r.state is new.state_is);
-      events_are = new.no_events ∙ sym (no_events r.state.seat) ∙ ap (λ (es : List Entry). events r.state.seat (facts_of (map entry_fields es))) (sym new.none);
-    }

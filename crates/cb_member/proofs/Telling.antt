@@ -99,10 +99,7 @@ helped seat facts i k (r ∷ ranges) frame are asked helper is made =
     some_frame : (a b : FrameFields) → Some a ≡ Some b → a ≡ b
     some_frame a b e = cc
 
--- the first of some members for which something holds: this one, or one behind it
-pub first_here : (p : ℕ → Bool) (n i : ℕ) → i < n → p i ≡ true → first_where p (range_with_len i (n - i)) ≡ Some i
-first_here p n i lt holds = rw (row_more n i lt, holds) refl
-
+-- the first of some members for which something holds, where it does not hold of this one
 pub first_behind : (p : ℕ → Bool) (n i : ℕ) → i < n → p i ≡ false → first_where p (range_with_len i (n - i)) ≡ first_where p (range_with_len (i + 1) (n - (i + 1)))
 first_behind p n i lt fails = rw (row_more n i lt, fails) refl
 

@@ -3,30 +3,30 @@ use Rattle.std.specs.Prelude.{◌≡◌, ℕ, ◌+◌, ◌<◌, List, [], ◌∷
 use Rattle.cb_frames.specs.declared.frame.TheConstants.{LAST_NUMBER}
 use Rattle.cb_frames.specs.Fields.{Load, payloads_of}
 use Rattle.cb_times.specs.Order.{field}
+use Rattle.cb_delay.specs.declared.message.Event.{Event}
 use Rattle.cb_delay.specs.declared.message.Message.{Message}
 use Rattle.cb_history.specs.declared.answer.ArriveRefusal.{ArriveRefusal}
-use Rattle.cb_history.specs.declared.answer.BurstDone.{BurstDone}
 use Rattle.cb_history.specs.declared.answer.BurstRefusal.{BurstRefusal}
 use Rattle.cb_history.specs.declared.answer.BurstRefusal.TheVariants as bursts
-use Rattle.cb_history.specs.declared.answer.CastDone.{CastDone}
 use Rattle.cb_history.specs.declared.answer.CastRefusal.{CastRefusal}
 use Rattle.cb_history.specs.declared.answer.CastRefusal.TheVariants as casts
 use Rattle.cb_history.specs.declared.answer.Ticked.{Ticked}
 use Rattle.cb_history.specs.declared.answer.TickRefusal.{TickRefusal}
+use Rattle.cb_history.specs.declared.history.Entry.{Entry}
 use Rattle.cb_history.specs.Group.{Identity}
 use Rattle.cb_history.specs.Facts.{EntryFields}
 use Rattle.cb_history.specs.Load.{FitsFrame}
 use Rattle.cb_history.specs.Legal.{ToCast, ToTake, ToTick}
-use Rattle.cb_history.specs.State.{MemberState, HasCast, HasCastBurst, HasTicked, RefusesArrival, RefusesTick, state_after}
-use Rattle.cb_member.specs.declared.recorder.taken.Received.{Received}
+use Rattle.cb_history.specs.State.{MemberState, HasTicked, RefusesArrival, RefusesTick, state_after}
+use Rattle.cb_member.specs.declared.received.Received.{Received}
 use Rattle.cb_member.specs.Casting.{RefusesBurstExactly, RefusesExactly}
-use Rattle.cb_member.specs.CoreCalls.{HasReceivedWith}
+use Rattle.cb_member.specs.CoreCalls.{HasCastWith, HasReceivedWith}
 use Rattle.cb_member.specs.CoreMember.{Core, GoesOn, IsCore, OnEach, StandsFor, grown_by, unlimited}
 
--- a call, and what was answered to it; of received bytes also what was delivered
+-- a call, and what was answered to it: of a cast its frame and its entry, and the events that joined; of received bytes also what was delivered
 pub data AnsweredCall : Type 0 where
-  Cast : Load → Result CastDone CastRefusal → AnsweredCall
-  Burst : Load → Result BurstDone BurstRefusal → AnsweredCall
+  Cast : Load → Result (List ℕ × Entry) CastRefusal → List Event → AnsweredCall
+  Burst : Load → Result (List ℕ × Entry) BurstRefusal → List Event → AnsweredCall
   Take : List ℕ → Result Received ArriveRefusal → List Message → AnsweredCall
   Tick : Result Ticked TickRefusal → AnsweredCall
 
@@ -34,10 +34,10 @@ pub data AnsweredCall : Type 0 where
 
 -- the answer is the definition's for this member, or there was no memory for it
 abbrev pub IsAnswered : MemberState → AnsweredCall → Type 0
-IsAnswered m (Cast load (Ok done)) = HasCast m (state_after m (ToCast load)) load done
-IsAnswered m (Cast load (Err refusal)) = RefusesExactly m load refusal
-IsAnswered m (Burst load (Ok done)) = HasCastBurst m (state_after m (ToCast load)) load done
-IsAnswered m (Burst load (Err refusal)) = RefusesBurstExactly m load refusal
+IsAnswered m (Cast load (Ok cast) events) = HasCastWith m load cast events
+IsAnswered m (Cast load (Err refusal) events) = RefusesExactly m load refusal
+IsAnswered m (Burst load (Ok cast) events) = HasCastWith m load cast events
+IsAnswered m (Burst load (Err refusal) events) = RefusesBurstExactly m load refusal
 IsAnswered m (Take bytes (Ok received) messages) = HasReceivedWith m (state_after m (ToTake bytes)) bytes received messages
 IsAnswered m (Take bytes (Err refusal) messages) = RefusesArrival m bytes refusal
 IsAnswered m (Tick (Ok ticked)) = HasTicked m (state_after m ToTick) ticked
@@ -45,10 +45,10 @@ IsAnswered m (Tick (Err refusal)) = RefusesTick m refusal
 
 -- the history with a call, to which a refused one adds nothing
 abbrev pub history_with : Identity → List EntryFields → AnsweredCall → List EntryFields
-history_with seat entries (Cast load (Ok done)) = grown_by seat entries (ToCast load)
-history_with seat entries (Cast load (Err refusal)) = entries
-history_with seat entries (Burst load (Ok done)) = grown_by seat entries (ToCast load)
-history_with seat entries (Burst load (Err refusal)) = entries
+history_with seat entries (Cast load (Ok cast) events) = grown_by seat entries (ToCast load)
+history_with seat entries (Cast load (Err refusal) events) = entries
+history_with seat entries (Burst load (Ok cast) events) = grown_by seat entries (ToCast load)
+history_with seat entries (Burst load (Err refusal) events) = entries
 history_with seat entries (Take bytes (Ok received) messages) = grown_by seat entries (ToTake bytes)
 history_with seat entries (Take bytes (Err refusal) messages) = entries
 history_with seat entries (Tick (Ok ticked)) = grown_by seat entries ToTick
@@ -68,10 +68,10 @@ AreAnswered seat entries (a ∷ calls) = IsAnswered (unlimited seat entries) a �
 
 -- what the core is after a call that is answered so, and after a refused one
 abbrev pub GoesOnOrStays : AnsweredCall → Core → Core → Type 0
-GoesOnOrStays (Cast load (Ok done)) old new = GoesOn (ToCast load) old new
-GoesOnOrStays (Cast load (Err refusal)) old new = new ≡ old
-GoesOnOrStays (Burst load (Ok done)) old new = GoesOn (ToCast load) old new
-GoesOnOrStays (Burst load (Err refusal)) old new = new ≡ old
+GoesOnOrStays (Cast load (Ok cast) events) old new = GoesOn (ToCast load) old new
+GoesOnOrStays (Cast load (Err refusal) events) old new = new ≡ old
+GoesOnOrStays (Burst load (Ok cast) events) old new = GoesOn (ToCast load) old new
+GoesOnOrStays (Burst load (Err refusal) events) old new = new ≡ old
 GoesOnOrStays (Take bytes (Ok received) messages) old new = GoesOn (ToTake bytes) old new
 GoesOnOrStays (Take bytes (Err refusal) messages) old new = new ≡ old
 GoesOnOrStays (Tick (Ok ticked)) old new = GoesOn ToTick old new
@@ -100,5 +100,5 @@ CoresAnswerByTheirHistory =
 abbrev pub NoNumberIsLeft : Type 0
 NoNumberIsLeft =
     (load : Load) (old new : Core) → IsCore old → FitsFrame load → LAST_NUMBER < field old.time old.seat.me + length (payloads_of load)
-    → ((result : Result CastDone CastRefusal) → IsCall (Cast load result) old new → result ≡ Err casts.WindowFull)
-    × ((result : Result BurstDone BurstRefusal) → IsCall (Burst load result) old new → result ≡ Err bursts.WindowFull)
+    → ((result : Result (List ℕ × Entry) CastRefusal) (events : List Event) → IsCall (Cast load result events) old new → result ≡ Err casts.WindowFull)
+    × ((result : Result (List ℕ × Entry) BurstRefusal) (events : List Event) → IsCall (Burst load result events) old new → result ≡ Err bursts.WindowFull)

@@ -1,29 +1,20 @@
 -- What is answered to received bytes, and what is made for that before anything changes.
-use Rattle.std.specs.Prelude.{◌≡◌, ℕ, ◌<◌, ◌≤◌, true, List, [], length, map, Option, Some, option_map, Result, Ok, IfOk, IfErr, OnErr}
-use Rattle.cb_frames.specs.Fields.{CastFrame, unit_fields}
-use Rattle.cb_frames.specs.Laws.{IsBytes}
-use Rattle.cb_history.specs.Read.{frame_read}
+use Rattle.std.specs.Prelude.{◌≡◌, ℕ, ◌≤◌, true, false, List, [], ◌∷◌, ◌++◌, length, map, Some, Ok}
 use Rattle.cb_times.specs.declared.name.Name.{Name}
 use Rattle.cb_delay.specs.declared.message.Event.{Event}
 use Rattle.cb_delay.specs.declared.message.Message.{Message}
-use Rattle.cb_history.specs.declared.answer.ArriveRefusal.{ArriveRefusal}
 use Rattle.cb_history.specs.declared.answer.Outgoing.{Outgoing}
 use Rattle.cb_history.specs.Answers.{ArrivalSays, Accepted, Repeat}
-use Rattle.cb_history.specs.Facts.{entry_fields}
+use Rattle.cb_history.specs.Facts.{ArriveEntry, entry_fields}
 use Rattle.cb_history.specs.Legal.{ToTake}
-use Rattle.cb_history.specs.State.{MemberState, RefusesArrival, answer_to_arrival, entry_by, state_after}
-use Rattle.cb_member.specs.declared.recorder.arriving.Arriving.{Arriving}
-use Rattle.cb_member.specs.declared.recorder.arriving.Named.{Named}
-use Rattle.cb_member.specs.declared.recorder.taken.Received.{Received}
-use Rattle.cb_member.specs.declared.recorder.taken.Received.TheVariants as received
-use Rattle.cb_member.specs.declared.recorder.taken.Taken.{Taken}
-use Rattle.cb_member.specs.declared.recorder.taken.Wanted.{Wanted}
-use Rattle.cb_member.specs.declared.recorder.Recorder.{Recorder}
-use Rattle.cb_member.specs.Arriving.{IsNew}
-use Rattle.cb_member.specs.Course.{CanGo, most}
-use Rattle.cb_member.specs.Foreseen.{AreCopies}
+use Rattle.cb_history.specs.State.{MemberState, answer_to_arrival, state_after}
+use Rattle.cb_history.specs.declared.history.Entry.{Entry}
+use Rattle.cb_history.specs.declared.history.Entry.TheVariants as entries
+use Rattle.cb_member.specs.declared.wanted.Asked.{Asked}
+use Rattle.cb_member.specs.declared.received.Received.{Received}
+use Rattle.cb_member.specs.declared.received.Received.TheVariants as received
+use Rattle.cb_member.specs.Asked.{joins_entries, joins_twice, with_entry}
 use Rattle.cb_member.specs.Knowledge.{delivered_by}
-use Rattle.cb_member.specs.Recorder.{HasRoom, IsKept, held_by}
 
 -- ---- what is answered
 
@@ -65,54 +56,38 @@ pub record HasTakenToSend (old new : MemberState) (bytes : List ℕ) (out : List
   pub sends : out ≡ sent_by says
   pub after : new ≡ state_after old (ToTake bytes)
 
--- and what was wanted is there
-pub record HasTakenFor (wanted : Wanted) (bytes : List ℕ) (old new : Recorder) (taken : Taken) : Type 0 where
-  pub received_it : HasReceivedFrame (held_by old) (held_by new) bytes taken.received
-  pub deliveries : wanted.deliveries ≡ true → taken.deliveries.items ≡ deliveries_in received_it.says
-  pub entry : wanted.entry ≡ true → entry_by (held_by old) (ToTake bytes) ≡ option_map entry_fields taken.noted
+-- ---- entries that are made
 
--- what received bytes do and how they are answered
-pub record AnswersBytes (wanted : Wanted) (bytes : List ℕ) (old new : Recorder) (result : Result Taken ArriveRefusal) : Type 0 where
-  pub kept : IsKept new
-  pub taken : IfOk result (HasTakenFor wanted bytes old new)
-  pub refused : IfErr result (RefusesArrival (held_by old) bytes)
-  pub same : OnErr result (held_by new ≡ held_by old)
+-- an entry of these bytes without names, with room for so many
+abbrev pub IsOpen : List ℕ → ℕ → Entry → Type 0
+IsOpen bytes room (entries.Arrive frame delivered) = (frame ≡ bytes) × (delivered.items ≡ []) × (room ≤ delivered.capacity)
+IsOpen bytes room (entries.Cast frame) = true ≡ false
+IsOpen bytes room (entries.Tick status) = true ≡ false
 
--- ---- a cast that is entered
+-- as many of them as are asked for stand behind these
+abbrev pub AreOpen : Asked → List ℕ → ℕ → List Entry → Type 0
+AreOpen asked bytes room [] = joins_entries asked ≡ false
+AreOpen asked bytes room (e ∷ []) = (joins_entries asked ≡ true) × (joins_twice asked ≡ false) × IsOpen bytes room e
+AreOpen asked bytes room (e ∷ f ∷ []) = (joins_entries asked ≡ true) × (joins_twice asked ≡ true) × IsOpen bytes room e × IsOpen bytes room f
+AreOpen asked bytes room (e ∷ f ∷ g ∷ es) = true ≡ false
 
--- the frame, without names, with room for so many
-pub record HasRoomForNames (bytes : List ℕ) (room : ℕ) (named : Named) : Type 0 where
-  pub frame : named.frame ≡ bytes
-  pub empty : named.delivered.items ≡ []
-  pub room_is : room ≤ named.delivered.capacity
+pub record HasOpened (asked : Asked) (bytes : List ℕ) (room : ℕ) (started entries : List Entry) : Type 0 where
+  pub opened : List Entry
+  pub behind : entries ≡ started ++ opened
+  pub are : AreOpen asked bytes room opened
 
-abbrev pub HasRoomForWanted : List ℕ → ℕ → Option Named → Type 0
-HasRoomForWanted bytes room named = (n : Named) → named ≡ Some n → HasRoomForNames bytes room n
+-- this one stands behind the first so many
+pub record IsOpenAt (place : ℕ) (bytes : List ℕ) (room : ℕ) (before after : List Entry) (entry : Entry) (entries : List Entry) : Type 0 where
+  pub at : entries ≡ before ++ entry ∷ after
+  pub place_is : length before ≡ place
+  pub is : IsOpen bytes room entry
 
--- the cast is that of these bytes, its frame, and new, has its course, there is room for what it delivers, and what is wanted is made
-pub record CanEnter (wanted : Wanted) (bytes : List ℕ) (r : Recorder) (arriving : Arriving) : Type 0 where
-  pub kept : IsKept r
-  pub bytes_are : IsBytes bytes
-  pub read : frame_read bytes ≡ Ok (CastFrame (unit_fields arriving.unit))
-  pub frame : arriving.frame ≡ bytes
-  pub new : IsNew (unit_fields arriving.unit) r.state
-  pub few : length r.entries.items < r.limit
-  pub can_go : CanGo (unit_fields arriving.unit) arriving.course r.state
-  pub room : HasRoom (most arriving.course) r
-  pub entry : HasRoomForNames bytes (most arriving.course) arriving.entry
-  pub copies : wanted.deliveries ≡ true → AreCopies (unit_fields arriving.unit) arriving.course r.state arriving.deliveries.items
-  pub noted : wanted.entry ≡ true → (named : Named) × (arriving.noted ≡ Some named)
-  pub noted_fits : HasRoomForWanted bytes (most arriving.course) arriving.noted
+-- and has got these names
+pub record HasNamedAt (bytes : List ℕ) (names : List Name) (before after entries : List Entry) : Type 0 where
+  pub named : Entry
+  pub fields : entry_fields named ≡ ArriveEntry bytes names
+  pub at : entries ≡ before ++ named ∷ after
 
-pub record IsEntering (arriving : Arriving) (r : Recorder) : Type 0 where
-  pub wanted : Wanted
-  pub bytes : List ℕ
-  pub can : CanEnter wanted bytes r arriving
-
--- it was entered, and is answered so
-pub record IsEntered (wanted : Wanted) (bytes : List ℕ) (old new : Recorder) (taken : Taken) : Type 0 where
-  pub kept : IsKept new
-  pub taken_is : HasTakenFor wanted bytes old new taken
-
-abbrev pub Enters : Arriving → Recorder → Recorder → Taken → Type 0
-Enters arriving old new taken = (wanted : Wanted) (bytes : List ℕ) → CanEnter wanted bytes old arriving → IsEntered wanted bytes old new taken
+-- so all of them have
+abbrev pub HasNamed : Asked → List ℕ → List Name → List Entry → List Entry → Type 0
+HasNamed asked bytes names started entries = map entry_fields entries ≡ with_entry asked (map entry_fields started) (Some (ArriveEntry bytes names))

@@ -1,6 +1,6 @@
 //! A member that keeps no history: what it knows is all that it needs of one.
 
-ghost use Rattle.std.specs.Prelude.{◌≡◌, ◌≢◌, ◌↔◌, ◌⊎◌, ◌≤◌, ◌<◌, [], ◌∷◌, ◌++◌, length, IfOk, IfErr, OnErr, OnOk, Some, None, Ok, Err, true, false, option_map};
+ghost use Rattle.std.specs.Prelude.{◌≡◌, ◌≢◌, ◌↔◌, ◌⊎◌, ◌≤◌, ◌<◌, [], ◌++◌, length, IfOk, IfErr, OnErr, OnOk, Some, Ok, Err, false, option_map};
 ghost use Rattle.cb_frames.specs.Fields.{One, CastFrame};
 ghost use Rattle.cb_frames.specs.Text.{text_of};
 ghost use Rattle.cb_history.specs.Answers.{is_new_status};
@@ -11,28 +11,29 @@ ghost use Rattle.cb_history.specs.EventLaws.{new_events};
 ghost use Rattle.cb_history.specs.Facts.{OwnCast, entry_fields};
 ghost use Rattle.cb_history.specs.Load.{many_of};
 ghost use Rattle.cb_history.specs.Known.{ranges_of};
-ghost use Rattle.cb_history.specs.State.{time_in, stable_in, stable_of_in, missing_in, answer_to_cast, answer_to_help, entry_by, facts_in, next_in, state_after, HasCast, HasCastBurst, HasTicked, RefusesHelp, RefusesTick};
+ghost use Rattle.cb_history.specs.State.{time_in, stable_in, stable_of_in, missing_in, answer_to_cast, answer_to_help, entry_by, facts_in, next_in, state_after, HasTicked, RefusesHelp, RefusesTick};
 ghost use Rattle.cb_member.specs.Casting.{RefusesBurstExactly, RefusesExactly};
-ghost use Rattle.cb_member.specs.CoreCalls.{HasEntryOnEach, JoinsAs, MayCast, ReceivesOnEach, RefusesOnEach, RefusesWithin, joined};
+ghost use Rattle.cb_member.specs.CoreCalls.{AnswersArrivalOnEach, AnswersBurstInto, AnswersCastInto, AnswersTickOnEach, HasEntryOnEach, JoinsAs, MayCast, ReceivesOnEach, RefusesOnEach, added, joined};
+ghost use Rattle.cb_member.specs.Helping.{answer_to_help_among, may_ask_among, RefusesHelpAmong};
 ghost use Rattle.cb_member.specs.Readings.{acknowledged_by_in, delivered_of_in, keeps_window_full_in, waiting_in, waits_for_in};
 ghost use Rattle.cb_member.specs.Received.{count_said};
 ghost use Rattle.cb_member.specs.CoreMember.{GoesOn, OnEach, StandsFor};
 ghost use Rattle.cb_member.specs.CoreRuns.{Burst, Cast, IsCall, Take, Tick};
 
-mod arriving;
+pub mod arriving;
 mod casting;
 mod ticking;
 
-use crate::core_member::arriving::Noting;
 use crate::readings::Delayed;
-use crate::recorder::Received;
+use crate::received::Received;
 use crate::state::State;
+use crate::wanted::{Asked, Made, Taken, Told, Wanted};
 use bytes::Bytes;
 use cb_delay::Event;
 use cb_frames::Range;
 use cb_history::{
-    ArriveRefusal, BurstDone, BurstRefusal, CastDone, CastRefusal, Entry, Group, HelpFault,
-    Identity, MissingFault, NewFault, Outgoing, TickRefusal, Ticked,
+    ArriveRefusal, BurstRefusal, CastRefusal, Entry, Group, HelpFault, Identity, MissingFault,
+    NewFault, Outgoing, TickRefusal, Ticked,
 };
 use cb_times::{NoMemory, VectorTime};
 use std::alloc::Global;
@@ -41,9 +42,9 @@ use std::marker::Model;
 /// One member of a group that keeps no history, for sessions without an end.
 ///
 /// It stands for the history of all calls so far, and answers each call as the definitions in
-/// `cb_history` say of that history without a limit; so it never answers `HistoryFull`, but where a
-/// caller has no room for an entry (`receive_within`). Its memory is bounded by the group's size and
-/// window. After any refusal, out of memory too, the member is as it was.
+/// `cb_history` say of that history without a limit; so it never answers `HistoryFull`. Its memory
+/// is bounded by the group's size and window. After any refusal, out of memory too, the member is
+/// as it was.
 #[derive(Drop)]
 pub struct CoreMember {
     state: State,
@@ -205,82 +206,28 @@ impl CoreMember {
         self.state.help(i)
     }
 
-    /// Casts a message of this payload, of up to 1,024 bytes, and answers its name, its time and
-    /// the frame that goes to all others.
+    /// The frame of `help`, but to the first of these members that is known to have the message: leave out who is silent. Member i and
+    /// this one are passed over. Nothing changes.
+    ///
+    /// `BadMember` as `help` has it, or where one of these is no member of the group; that takes no memory.
+    pub fn help_among(&self, i: u32, members: &[u32]) -> Result<Option<Outgoing>, HelpFault>
+        ensures asked { IfOk result (λ out. OnEach self.now (λ m.
+            answer_to_help_among m i members.now ≡ Ok out)) }
+        ensures refused { IfErr result (λ fault. OnEach self.now (λ m.
+            RefusesHelpAmong m i members.now fault)) }
+        ensures bad_member { (result ≡ Err HelpFault.BadMember)
+            ↔ (may_ask_among self.now.seat i members.now ≡ false) }
+    {
+        self.state.help_among(i, members)
+    }
+
+    /// Casts a message of this payload, of up to 1,024 bytes, and returns the frame that goes to all
+    /// others and the entry that a history would have of the cast. The event, which has the
+    /// message's name and time, joins the caller's events.
     ///
     /// A refusal is the definition's, in the order of `CastRefusal`; `NoMemory` stands only in
     /// place of a cast.
-    pub fn cast(&mut self, payload: &[u8]) -> Result<CastDone, CastRefusal>
-        ensures done { IfOk result (λ done. OnEach self.old (λ m.
-            HasCast m (state_after m (ToCast (One payload.now))) (One payload.now) done)) }
-        ensures goes_on { OnOk result (GoesOn (ToCast (One payload.now)) self.old self.new) }
-        ensures refused { IfErr result (λ refusal. OnEach self.old (λ m.
-            RefusesExactly m (One payload.now) refusal)) }
-        ensures no_limit { result ≢ Err CastRefusal.HistoryFull }
-        ensures same { OnErr result (self.new ≡ self.old) }
-        ensures call { IsCall (Cast (One payload.now) result) self.old self.new }
-    {
-        let (done, _entry) = self.cast_noted(payload)?;
-        Ok(done)
-    }
-
-    /// Casts a payload as `cast` does, and hands out the entry that a history would have of it.
-    pub fn cast_noted(&mut self, payload: &[u8]) -> Result<(CastDone, Entry), CastRefusal>
-        ensures done { IfOk result (λ noted. OnEach self.old (λ m.
-            HasCast m (state_after m (ToCast (One payload.now))) (One payload.now) noted.0)) }
-        ensures entry { IfOk result (λ noted. OnEach self.old (λ m.
-            entry_by m (ToCast (One payload.now)) ≡ Some (entry_fields noted.1))) }
-        ensures goes_on { OnOk result (GoesOn (ToCast (One payload.now)) self.old self.new) }
-        ensures refused { IfErr result (λ refusal. OnEach self.old (λ m.
-            RefusesExactly m (One payload.now) refusal)) }
-        ensures no_limit { result ≢ Err CastRefusal.HistoryFull }
-        ensures same { OnErr result (self.new ≡ self.old) }
-    {
-        self.state.cast_unlimited(payload)
-    }
-
-    /// Casts a message of each payload, all in one frame: 1 to 32 payloads of up to 1,024 bytes
-    /// together. Their numbers follow one another, and so do their times. Answers the first name,
-    /// how many messages there are, the first time and the frame that goes to all others.
-    ///
-    /// A refusal is the definition's, in the order of `BurstRefusal`; `NoMemory` stands only in
-    /// place of a burst.
-    pub fn cast_burst(&mut self, payloads: &[&[u8]]) -> Result<BurstDone, BurstRefusal>
-        ensures done { IfOk result (λ done. OnEach self.old (λ m. HasCastBurst m
-            (state_after m (ToCast (many_of payloads.now))) (many_of payloads.now) done)) }
-        ensures goes_on { OnOk result (GoesOn (ToCast (many_of payloads.now)) self.old self.new) }
-        ensures refused { IfErr result (λ refusal. OnEach self.old (λ m.
-            RefusesBurstExactly m (many_of payloads.now) refusal)) }
-        ensures no_limit { result ≢ Err BurstRefusal.HistoryFull }
-        ensures same { OnErr result (self.new ≡ self.old) }
-        ensures call { IsCall (Burst (many_of payloads.now) result) self.old self.new }
-    {
-        let (done, _entry) = self.cast_burst_noted(payloads)?;
-        Ok(done)
-    }
-
-    /// Casts a burst as `cast_burst` does, and hands out the one entry that a history would have of
-    /// it.
-    pub fn cast_burst_noted(
-        &mut self,
-        payloads: &[&[u8]],
-    ) -> Result<(BurstDone, Entry), BurstRefusal>
-        ensures done { IfOk result (λ noted. OnEach self.old (λ m. HasCastBurst m
-            (state_after m (ToCast (many_of payloads.now))) (many_of payloads.now) noted.0)) }
-        ensures entry { IfOk result (λ noted. OnEach self.old (λ m.
-            entry_by m (ToCast (many_of payloads.now)) ≡ Some (entry_fields noted.1))) }
-        ensures goes_on { OnOk result (GoesOn (ToCast (many_of payloads.now)) self.old self.new) }
-        ensures refused { IfErr result (λ refusal. OnEach self.old (λ m.
-            RefusesBurstExactly m (many_of payloads.now) refusal)) }
-        ensures no_limit { result ≢ Err BurstRefusal.HistoryFull }
-        ensures same { OnErr result (self.new ≡ self.old) }
-    {
-        self.state.cast_burst_unlimited(payloads)
-    }
-
-    /// Casts a payload as `cast_noted` does, for a caller who keeps events: that of the cast joins
-    /// them. Its frame is handed out, and the entry that a history would have of it.
-    pub fn cast_into(
+    pub fn cast(
         &mut self,
         payload: &[u8],
         events: &mut Vec<Event>,
@@ -299,13 +246,21 @@ impl CoreMember {
         ensures no_limit { result ≢ Err CastRefusal.HistoryFull }
         ensures same { OnErr result (self.new ≡ self.old) }
         ensures same_events { OnErr result (events.new.items ≡ events.old.items) }
+        ensures call { IsCall (Cast (One payload.now) result
+            (added events.old.items events.new.items)) self.old self.new }
     {
-        self.state.cast_joining(payload, events)
+        let (made, entry) = self.cast_wanting(payload, Wanted::Nothing, events)?;
+        Ok((made.frame(), Entry::Cast { frame: entry }))
     }
 
-    /// Casts a burst as `cast_burst_noted` does, for a caller who keeps events: those of its
-    /// messages join them. Its frame is handed out, and the entry that a history would have of it.
-    pub fn cast_burst_into(
+    /// Casts a message of each payload, all in one frame: 1 to 32 payloads of up to 1,024 bytes
+    /// together. Their numbers follow one another, and so do their times. Returns the frame that goes
+    /// to all others and the one entry that a history would have of the burst. The events of its
+    /// messages join the caller's events.
+    ///
+    /// A refusal is the definition's, in the order of `BurstRefusal`; `NoMemory` stands only in
+    /// place of a burst.
+    pub fn cast_burst(
         &mut self,
         payloads: &[&[u8]],
         events: &mut Vec<Event>,
@@ -324,8 +279,37 @@ impl CoreMember {
         ensures no_limit { result ≢ Err BurstRefusal.HistoryFull }
         ensures same { OnErr result (self.new ≡ self.old) }
         ensures same_events { OnErr result (events.new.items ≡ events.old.items) }
+        ensures call { IsCall (Burst (many_of payloads.now) result
+            (added events.old.items events.new.items)) self.old self.new }
     {
-        self.state.cast_burst_joining(payloads, events)
+        let (made, entry) = self.cast_burst_wanting(payloads, Wanted::Nothing, events)?;
+        Ok((made.frame(), Entry::Cast { frame: entry }))
+    }
+
+    /// Casts a payload as `cast` does, with the copies that are wanted.
+    pub(crate) fn cast_wanting(
+        &mut self,
+        payload: &[u8],
+        wanted: Wanted,
+        events: &mut Vec<Event>,
+    ) -> Result<(Made, Bytes), CastRefusal>
+        ensures { AnswersCastInto wanted (One payload.now) self.old self.new events.old.items
+            events.new.items result }
+    {
+        self.state.cast_joining(payload, wanted, events)
+    }
+
+    /// Casts a burst as `cast_burst` does, with the copies that are wanted.
+    pub(crate) fn cast_burst_wanting(
+        &mut self,
+        payloads: &[&[u8]],
+        wanted: Wanted,
+        events: &mut Vec<Event>,
+    ) -> Result<(Made, Bytes), BurstRefusal>
+        ensures { AnswersBurstInto wanted (many_of payloads.now) self.old self.new
+            events.old.items events.new.items result }
+    {
+        self.state.cast_burst_joining(payloads, wanted, events)
     }
 
     /// Whether `cast` would cast the payload, if there is memory for it; else why not. This takes
@@ -371,10 +355,9 @@ impl CoreMember {
         ensures call { IsCall
             (Take bytes.now result (joined events.old.items events.new.items)) self.old self.new }
     {
-        let heard = self
-            .state
-            .receive_unlimited(bytes, Noting::Unwanted, events)?;
-        Ok(heard.received)
+        let mut none = Vec::new(self.state.alloc);
+        let taken = self.receive_wanting(bytes, Asked::Nothing, events, &mut none)?;
+        Ok(taken.received())
     }
 
     /// Takes received bytes as `receive` does, and hands out the entry that a history would have of
@@ -397,38 +380,24 @@ impl CoreMember {
         ensures same { OnErr result (self.new ≡ self.old) }
         ensures same_events { OnErr result (events.new.items ≡ events.old.items) }
     {
-        let heard = self.state.receive_unlimited(bytes, Noting::Wanted, events)?;
-        Ok((heard.received, heard.noted))
+        let mut entries = Vec::new(self.state.alloc);
+        let taken = self.receive_wanting(bytes, Asked::Entry, events, &mut entries)?;
+        Ok((taken.received(), entries.pop()))
     }
 
-    /// Takes received bytes as `receive_noted` does, for a caller who may have no room for an entry.
-    /// Where none may be added, bytes of which a history would have one are refused as
-    /// `HistoryFull`, in its place in the order of `ArriveRefusal`.
-    pub fn receive_within(
+    /// Takes received bytes as `receive` does, with what is asked for. Where no entry may be added, bytes of which a history would have one
+    /// are refused as `HistoryFull`, in its place in the order of `ArriveRefusal`.
+    pub(crate) fn receive_wanting(
         &mut self,
         bytes: &Bytes,
-        may_enter: bool,
+        asked: Asked,
         events: &mut Vec<Event>,
-    ) -> Result<(Received, Option<Entry>), ArriveRefusal>
-        ensures taken { IfOk result (λ noted. ReceivesOnEach self.old bytes.now noted.0
-            (joined events.old.items events.new.items)) }
-        ensures joins { OnOk result (JoinsAs (joined events.old.items events.new.items)
-            events.old.items events.new.items) }
-        ensures count { IfOk result (λ noted. count_said noted.0
-            ≡ length (joined events.old.items events.new.items)) }
-        ensures entry { IfOk result (λ noted. HasEntryOnEach self.old bytes.now noted.1) }
-        ensures within { may_enter ≡ false → IfOk result (λ noted. noted.1 ≡ None) }
-        ensures goes_on { OnOk result (GoesOn (ToTake bytes.now) self.old self.new) }
-        ensures refused { IfErr result (λ refusal. OnEach self.old (λ m.
-            RefusesWithin may_enter m bytes.now refusal)) }
-        ensures no_limit { may_enter ≡ true → result ≢ Err ArriveRefusal.HistoryFull }
-        ensures same { OnErr result (self.new ≡ self.old) }
-        ensures same_events { OnErr result (events.new.items ≡ events.old.items) }
+        entries: &mut Vec<Entry>,
+    ) -> Result<Taken, ArriveRefusal>
+        ensures { AnswersArrivalOnEach asked bytes.now self.old self.new events.old.items
+            events.new.items entries.old.items entries.new.items result }
     {
-        let heard = self
-            .state
-            .receive_unlimited(bytes, Noting::within(may_enter), events)?;
-        Ok((heard.received, heard.noted))
+        self.state.receive_unlimited(bytes, asked, events, entries)
     }
 
     /// Reports the status to all others, and asks each for what is missing of it.
@@ -459,7 +428,18 @@ impl CoreMember {
         ensures no_limit { result ≢ Err TickRefusal.HistoryFull }
         ensures same { OnErr result (self.new ≡ self.old) }
     {
-        self.state.tick_unlimited()
+        let (told, entry) = self.tick_wanting(Wanted::Nothing)?;
+        Ok((told.ticked(), entry))
+    }
+
+    /// Ticks as `tick_noted` does, with the copy that is wanted.
+    pub(crate) fn tick_wanting(
+        &mut self,
+        wanted: Wanted,
+    ) -> Result<(Told, Option<Entry>), TickRefusal>
+        ensures { AnswersTickOnEach wanted self.old self.new result }
+    {
+        self.state.tick_unlimited(wanted)
     }
 
     /// Whether `tick` would add an entry to a history: the status differs from the last one.
@@ -469,3 +449,6 @@ impl CoreMember {
         self.state.has_news()
     }
 }
+
+#[cfg(test)]
+mod tests;

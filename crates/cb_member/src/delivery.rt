@@ -90,6 +90,7 @@ impl Delivery {
     }
 
     /// Delivers a message that may be delivered, where nothing that waits may be, then or before. It is as if it were held first.
+    #[inline(always)]
     pub fn deliver_alone(&mut self, message: Message, events: &mut Vec<Event>)
         requires alone { IsAlone message self.old }
         requires room { vec_len events.old + 1 ≤ vec_capacity events.old }

@@ -55,6 +55,7 @@ impl Knowledge {
 
     /// Of these events the messages are delivered, with which this is the member's time: their senders had delivered as much as the
     /// messages' times say.
+    #[inline(always)]
     pub fn acknowledge(&mut self, me: u32, time: &VectorTime, events: &[Event])
         requires me { me < self.old.acks.size }
         requires time { length time.now ≡ self.old.acks.size }

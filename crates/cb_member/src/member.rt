@@ -1,8 +1,7 @@
 //! The member, and what is read of it.
 
-ghost use Rattle.std.specs.Prelude.{◌≡◌, ◌≢◌, ◌↔◌, ◌⊎◌, ◌≤◌, ◌<◌, [], IfOk, IfErr, OnErr, Some, Ok, Err, map, option_map};
+ghost use Rattle.std.specs.Prelude.{◌≡◌, ◌↔◌, ◌⊎◌, ◌≤◌, ◌<◌, [], IfOk, IfErr, OnErr, Some, Ok, Err, map, option_map};
 ghost use Rattle.cb_frames.specs.Fields.{One};
-ghost use Rattle.cb_history.specs.Group.{IsIdentity};
 ghost use Rattle.cb_history.specs.Legal.{longest_history, ToCast, ToTake, ToTick};
 ghost use Rattle.cb_history.specs.LegalHistory.{IsLegalHistory};
 ghost use Rattle.cb_history.specs.Facts.{entry_fields};
@@ -10,17 +9,20 @@ ghost use Rattle.cb_history.specs.Load.{many_of};
 ghost use Rattle.cb_history.specs.Known.{ranges_of};
 ghost use Rattle.cb_history.specs.State.{IsMemberState, state_of, time_in, events_in, stable_in, stable_of_in, missing_in, answer_to_help, entry_by, HasCast, HasCastBurst, HasTaken, RefusesArrival, HasTicked, RefusesHelp, RefusesTick};
 ghost use Rattle.cb_member.specs.Casting.{RefusesExactly, RefusesBurstExactly};
+ghost use Rattle.cb_member.specs.Helping.{answer_to_help_among, RefusesHelpAmong};
 ghost use Rattle.cb_member.specs.Readings.{acknowledged_by_in, delivered_of_in, keeps_window_full_in, waiting_in, waits_for_in};
 ghost use Rattle.cb_member.specs.Received.{HasReceivedFrame, HasTakenToSend};
 
+use crate::kept::Kept;
 use crate::readings::Delayed;
-use crate::recorder::{Received, Recorder, Taken, Wanted};
+use crate::received::Received;
+use crate::wanted::Wanted;
 use bytes::Bytes;
 use cb_frames::Range;
 use cb_history::{
     Arrival, ArriveRefusal, BurstDone, BurstRefusal, CastDone, CastRefusal, Entry, Event, Group,
-    GroupMember, HelpFault, History, Identity, LONGEST_HISTORY, MissingFault, NewFault, Outgoing,
-    TickRefusal, Ticked,
+    GroupMember, HelpFault, History, Identity, MissingFault, NewFault, Outgoing, TickRefusal,
+    Ticked,
 };
 use cb_times::{NoMemory, VectorTime};
 use std::alloc::Global;
@@ -32,18 +34,18 @@ use std::marker::Model;
 /// is received. After any refusal, out of memory too, the member is as it was.
 #[derive(Drop)]
 pub struct Member {
-    recorder: Recorder,
+    kept: Kept,
 }
 
 impl Model for Member {
     ghost use Rattle.cb_history.specs.State.{MemberState};
-    ghost use Rattle.cb_member.specs.Recorder.{IsKept, held_by};
+    ghost use Rattle.cb_member.specs.Member.{KeepsHistory, member_of};
 
     ghost Value = { MemberState };
 
-    ghost view = { λ m. held_by m.recorder };
+    ghost view = { λ m. member_of m.kept };
 
-    ghost invariant = { λ m. IsKept m.recorder };
+    ghost invariant = { λ m. KeepsHistory m.kept };
 }
 
 impl Member {
@@ -55,25 +57,17 @@ impl Member {
         ensures bad_limit { (result ≡ Err NewFault.BadLimit)
             ↔ ((me < group.size) × ¬ ((1 ≤ history_max) × (history_max ≤ longest_history))) }
     {
-        let Some(seat) = Identity::new(group, me) else {
+        // it would keep none
+        if history_max == 0 {
+            if me < group.size() {
+                return Err(NewFault::BadLimit);
+            }
             return Err(NewFault::BadMember);
-        };
-        if !(1..=LONGEST_HISTORY).contains(&history_max) {
-            return Err(NewFault::BadLimit);
         }
-        match Member::at(alloc, seat, history_max) {
-            Ok(member) => Ok(member),
-            Err(_refused) => Err(NewFault::NoMemory),
+        match Kept::new(alloc, group, me, history_max) {
+            Ok(kept) => Ok(Member { kept }),
+            Err(fault) => Err(fault),
         }
-    }
-
-    fn at(alloc: Global, seat: Identity, limit: usize) -> Result<Member, NoMemory>
-        requires seat { IsIdentity seat }
-        requires limit { (1 ≤ limit) × (limit ≤ longest_history) }
-        ensures { IfOk result (λ member. member ≡ state_of seat limit []) }
-    {
-        let recorder = Recorder::new(alloc, seat, limit)?;
-        Ok(Member { recorder })
     }
 
     /// The group, and which of its members this is.
@@ -81,14 +75,14 @@ impl Member {
         ensures seat { result ≡ self.now.seat }
         ensures member { IsMemberState self.now }
     {
-        self.recorder.state.seat
+        self.kept.seat()
     }
 
     /// How many messages of each member are delivered, own casts included.
     pub fn time(&self) -> &VectorTime
         ensures { result.now ≡ time_in self.now }
     {
-        &self.recorder.state.delivery.time
+        self.kept.time()
     }
 
     /// All that the member did, in order. The history is legal, whatever is received.
@@ -96,22 +90,21 @@ impl Member {
         ensures entries { map entry_fields result.now ≡ self.now.entries }
         ensures legal { IsMemberState self.now }
     {
-        self.recorder.entries.as_slice()
+        self.kept.entries()
     }
 
     /// The casts and deliveries so far, in order.
     pub fn events(&self) -> &[Event]
         ensures { result.now ≡ events_in self.now }
     {
-        self.recorder.events.as_slice()
+        self.kept.events()
     }
 
     /// How many own casts are known to be delivered by every other member.
     pub fn stable(&self) -> u32
         ensures { result ≡ stable_in self.now }
     {
-        let state = &self.recorder.state;
-        state.knowledge.acks.stable(state.seat.me())
+        self.kept.stable()
     }
 
     /// How many casts of member i are known to be delivered by every other member, this one included; `None` where the group has no
@@ -119,21 +112,21 @@ impl Member {
     pub fn stable_of(&self, i: u32) -> Option<u32>
         ensures { result ≡ stable_of_in self.now i }
     {
-        self.recorder.state.stable_of(i)
+        self.kept.stable_of(i)
     }
 
     /// How many messages of member k are delivered here, own casts included; `None` where the group has no member k.
     pub fn delivered_of(&self, k: u32) -> Option<u32>
         ensures { result ≡ delivered_of_in self.now k }
     {
-        self.recorder.state.delivered_of(k)
+        self.kept.delivered_of(k)
     }
 
     /// How many own casts member k is known to have delivered, this one all; `None` where the group has no member k.
     pub fn acknowledged_by(&self, k: u32) -> Option<u32>
         ensures { result ≡ acknowledged_by_in self.now k }
     {
-        self.recorder.state.acknowledged_by(k)
+        self.kept.acknowledged_by(k)
     }
 
     /// Whether another member k keeps this one's window full: of as many of its last casts as the window is wide it is not known to have
@@ -141,7 +134,7 @@ impl Member {
     pub fn keeps_window_full(&self, k: u32) -> bool
         ensures { result ≡ keeps_window_full_in self.now k }
     {
-        self.recorder.state.keeps_window_full(k)
+        self.kept.keeps_window_full(k)
     }
 
     /// How many messages wait: they were received and are not delivered, since something before them is missing. Those behind a gap of
@@ -149,7 +142,7 @@ impl Member {
     pub fn waiting(&self) -> u32
         ensures { result ≡ waiting_in self.now }
     {
-        self.recorder.state.waiting()
+        self.kept.waiting()
     }
 
     /// The first message of member i that waits, and what it waits for: of the members of whose messages in its past some are not
@@ -157,7 +150,7 @@ impl Member {
     pub fn waits_for(&self, i: u32) -> Option<Delayed>
         ensures { result ≡ waits_for_in self.now i }
     {
-        self.recorder.state.waits_for(i)
+        self.kept.waits_for(i)
     }
 
     /// The casts of member i that are missing, as rising ranges that neither touch nor overlap.
@@ -166,45 +159,29 @@ impl Member {
         ensures bad_member { (result ≡ Err MissingFault.BadMember)
             ↔ ((self.now.seat.group.size ≤ i) ⊎ (i ≡ self.now.seat.me)) }
     {
-        let seat = self.seat();
-        if i >= seat.group().size() || i == seat.me() {
-            return Err(MissingFault::BadMember);
-        }
-        let ranges = self.missing_of(i)?;
-        Ok(ranges)
-    }
-
-    fn missing_of(&self, i: u32) -> Result<Vec<Range>, NoMemory>
-        requires of_group { i < self.now.seat.group.size }
-        requires other { i ≢ self.now.seat.me }
-        ensures { IfOk result (λ ranges. ranges.items ≡ ranges_of (missing_in self.now i)) }
-    {
-        self.recorder.state.missing(i)
+        self.kept.missing(i)
     }
 
     /// The frame that asks a third member for the missing casts of member i: it goes to the first one, other than both, that is known to
     /// have delivered the first of them. `None` where none is missing, or nobody is known to have it. Nothing changes.
     ///
     /// `BadMember` where the group has no member i, or it is this one; that takes no memory.
-    #[tactic(auto, unfolding(cb_history::specs::Helping::help_answer))]
     pub fn help(&self, i: u32) -> Result<Option<Outgoing>, HelpFault>
         ensures asked { IfOk result (λ out. answer_to_help self.now i ≡ Ok out) }
         ensures refused { IfErr result (RefusesHelp self.now i) }
     {
-        let seat = self.seat();
-        if i >= seat.group().size() || i == seat.me() {
-            return Err(HelpFault::BadMember);
-        }
-        let help = self.help_with(i)?;
-        Ok(help)
+        self.kept.help(i)
     }
 
-    fn help_with(&self, i: u32) -> Result<Option<Outgoing>, NoMemory>
-        requires of_group { i < self.now.seat.group.size }
-        requires other { i ≢ self.now.seat.me }
-        ensures { IfOk result (λ out. answer_to_help self.now i ≡ Ok out) }
+    /// The frame of `help`, but to the first of these members that is known to have the message: leave out who is silent. Member i and
+    /// this one are passed over. Nothing changes.
+    ///
+    /// `BadMember` as `help` has it, or where one of these is no member of the group; that takes no memory.
+    pub fn help_among(&self, i: u32, members: &[u32]) -> Result<Option<Outgoing>, HelpFault>
+        ensures asked { IfOk result (λ out. answer_to_help_among self.now i members.now ≡ Ok out) }
+        ensures refused { IfErr result (RefusesHelpAmong self.now i members.now) }
     {
-        self.recorder.state.help(i)
+        self.kept.help_among(i, members)
     }
 
     /// Casts a message of this payload, of up to 1,024 bytes, and answers its name, its time and the frame that goes to all others.
@@ -216,7 +193,8 @@ impl Member {
         ensures refused { IfErr result (RefusesExactly self.old (One payload.now)) }
         ensures same { OnErr result (self.new ≡ self.old) }
     {
-        self.recorder.cast(payload)
+        let made = self.kept.cast_wanting(payload, Wanted::Answer)?;
+        Ok(made.cast_done())
     }
 
     /// Casts a payload as `cast` does, and hands out a copy of the entry that was added.
@@ -227,7 +205,9 @@ impl Member {
         ensures refused { IfErr result (RefusesExactly self.old (One payload.now)) }
         ensures same { OnErr result (self.new ≡ self.old) }
     {
-        self.recorder.cast_noted(payload)
+        let mut made = self.kept.cast_wanting(payload, Wanted::Both)?;
+        let noted = made.noted();
+        Ok((made.cast_done(), noted))
     }
 
     /// Casts a message of each payload, all in one frame: 1 to 32 payloads of up to 1,024 bytes together. Their numbers follow one another,
@@ -240,7 +220,8 @@ impl Member {
         ensures refused { IfErr result (RefusesBurstExactly self.old (many_of payloads.now)) }
         ensures same { OnErr result (self.new ≡ self.old) }
     {
-        self.recorder.cast_burst(payloads)
+        let made = self.kept.cast_burst_wanting(payloads, Wanted::Answer)?;
+        Ok(made.burst_done())
     }
 
     /// Casts a burst as `cast_burst` does, and hands out a copy of the one entry that was added.
@@ -255,7 +236,9 @@ impl Member {
         ensures refused { IfErr result (RefusesBurstExactly self.old (many_of payloads.now)) }
         ensures same { OnErr result (self.new ≡ self.old) }
     {
-        self.recorder.cast_burst_noted(payloads)
+        let mut made = self.kept.cast_burst_wanting(payloads, Wanted::Both)?;
+        let noted = made.noted();
+        Ok((made.burst_done(), noted))
     }
 
     /// Takes received bytes: delivers what they make ready, or answers a request. The deliveries stand at the end of the events.
@@ -268,29 +251,24 @@ impl Member {
         ensures refused { IfErr result (RefusesArrival self.old bytes.now) }
         ensures same { OnErr result (self.new ≡ self.old) }
     {
-        let taken = self.recorder.take(bytes, Wanted::NOTHING)?;
-        Ok(taken.received)
+        let (taken, _none) = self.kept.receive_wanting(bytes, false, Wanted::Nothing)?;
+        Ok(taken.received())
     }
 
     /// Takes received bytes as `receive` does, and hands out a copy of the entry, where one was added, with what is to be sent.
     pub fn receive_noted(
         &mut self,
-        bytes: Bytes,
+        bytes: &Bytes,
     ) -> Result<(Vec<Outgoing>, Option<Entry>), ArriveRefusal>
         ensures taken { IfOk result (λ noted.
-            HasTakenToSend self.old self.new bytes noted.0.items) }
-        ensures entry { IfOk result (λ noted. entry_by self.old (ToTake bytes)
+            HasTakenToSend self.old self.new bytes.now noted.0.items) }
+        ensures entry { IfOk result (λ noted. entry_by self.old (ToTake bytes.now)
             ≡ option_map entry_fields noted.1) }
-        ensures refused { IfErr result (RefusesArrival self.old bytes) }
+        ensures refused { IfErr result (RefusesArrival self.old bytes.now) }
         ensures same { OnErr result (self.new ≡ self.old) }
     {
-        let taken = self.recorder.take(&bytes, Wanted::ENTRY)?;
-        let Taken {
-            received,
-            deliveries: _,
-            noted,
-        } = taken;
-        Ok((received.out(self.recorder.state.alloc), noted))
+        let (taken, noted) = self.kept.receive_wanting(bytes, false, Wanted::Entry)?;
+        Ok((taken.received().out(self.kept.alloc()), noted))
     }
 
     /// Takes received bytes as `receive` does, and hands out copies of what they deliver, which are made before anything changes.
@@ -299,8 +277,8 @@ impl Member {
         ensures refused { IfErr result (RefusesArrival self.old bytes.now) }
         ensures same { OnErr result (self.new ≡ self.old) }
     {
-        let taken = self.recorder.take(bytes, Wanted::DELIVERIES)?;
-        Ok(taken.received.arrival(taken.deliveries))
+        let (taken, _none) = self.kept.receive_wanting(bytes, false, Wanted::Answer)?;
+        Ok(taken.arrival())
     }
 
     /// Takes received bytes as `arrive` does, and hands out a copy of the entry, where one was added.
@@ -311,8 +289,8 @@ impl Member {
         ensures refused { IfErr result (RefusesArrival self.old bytes.now) }
         ensures same { OnErr result (self.new ≡ self.old) }
     {
-        let taken = self.recorder.take(bytes, Wanted::ALL)?;
-        Ok((taken.received.arrival(taken.deliveries), taken.noted))
+        let (taken, noted) = self.kept.receive_wanting(bytes, false, Wanted::Both)?;
+        Ok((taken.arrival(), noted))
     }
 
     /// Reports the status to all others, and asks each for what is missing of it.
@@ -324,7 +302,8 @@ impl Member {
         ensures refused { IfErr result (RefusesTick self.old) }
         ensures same { OnErr result (self.new ≡ self.old) }
     {
-        self.recorder.tick()
+        let told = self.kept.tick_wanting(Wanted::Nothing)?;
+        Ok(told.ticked())
     }
 
     /// Ticks as `tick` does, and hands out a copy of the entry, where one was added.
@@ -335,7 +314,8 @@ impl Member {
         ensures refused { IfErr result (RefusesTick self.old) }
         ensures same { OnErr result (self.new ≡ self.old) }
     {
-        self.recorder.tick_noted()
+        let told = self.kept.tick_wanting(Wanted::Entry)?;
+        Ok((told.ticked, told.noted))
     }
 
     /// All that the member did, for good. The history is legal, whatever is received.
@@ -345,11 +325,11 @@ impl Member {
         ensures legal { IsLegalHistory result }
     {
         let seat = self.seat();
-        let Member { recorder } = self;
+        let Member { kept } = self;
         History {
             group: seat.group(),
             me: seat.me(),
-            entries: recorder.into_entries(),
+            entries: kept.into_entries(),
         }
     }
 }
@@ -383,10 +363,7 @@ impl GroupMember for Member {
 
     fn events(&self) -> Result<Vec<Event>, NoMemory> {
         let events = Member::events(self);
-        Event::copies(
-            Vec::with_capacity(self.recorder.state.alloc, events.len())?,
-            events,
-        )
+        Event::copies(Vec::with_capacity(self.kept.alloc(), events.len())?, events)
     }
 
     fn missing(&self, i: u32) -> Result<Vec<Range>, MissingFault> {
@@ -402,7 +379,7 @@ impl GroupMember for Member {
     }
 
     fn entries(&self) -> Result<Vec<Entry>, NoMemory> {
-        Entry::copies(self.recorder.state.alloc, self.history())
+        Entry::copies(self.kept.alloc(), self.history())
     }
 }
 

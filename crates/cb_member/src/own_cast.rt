@@ -1,6 +1,6 @@
 //! Casting: what a cast is made of before anything changes, and what is kept of it.
 
-ghost use Rattle.std.specs.Prelude.{◌≡◌, ◌+◌, ◌<◌, ◌≤◌, ◌++◌, ◌∷◌, ℕ, List, [], IfOk, length, map};
+ghost use Rattle.std.specs.Prelude.{◌≡◌, ◌+◌, ◌<◌, ◌≤◌, ◌++◌, ◌∷◌, [], IfOk, length, map};
 ghost use Rattle.std.specs.Vec.{vec_capacity, vec_len};
 ghost use Rattle.cb_delay.specs.declared.message.Event.TheVariants.{Cast as Cast_event};
 ghost use Rattle.cb_frames.specs.Fields.{Load, One, cast_fields};
@@ -117,7 +117,8 @@ impl State {
         })
     }
 
-    /// Keeps the cast that was made, of so many messages, with which this is the time. This takes no memory.
+    /// Keeps the cast that was made: it has this many messages, and this is the time with them. This takes no memory.
+    #[inline(always)]
     pub fn keep_cast(&mut self, time: &VectorTime, sent: Bytes, count: u32)
         requires { CanKeepCast time.now sent count self.old }
         ensures { HasKept time.now sent count self.old self.new }
@@ -133,6 +134,7 @@ impl State {
 }
 
 /// Puts the events of these casts behind the others, which have room for them.
+#[inline(always)]
 pub fn push_casts(events: &mut Vec<Event>, first: Message, others: Vec<Message>)
     requires { vec_len events.old + (1 + length others.items) ≤ vec_capacity events.old }
     ensures { events.new.items ≡ events.old.items

@@ -71,7 +71,7 @@ impl Reception {
         self.buffers[unit.sender() as usize].ready_with(unit.first(), unit.last())
     }
 
-    /// Makes room for so many spares more of this sender.
+    /// Makes room for this many more spares of this sender.
     pub fn reserve(&mut self, sender: u32, count: usize) -> Result<(), NoMemory>
         requires { sender < length self.old.spares.items }
         ensures same { IsAlike self.old self.new }
@@ -105,6 +105,7 @@ impl Reception {
 
     /// The message of a cast of another member that carries just this one and comes in order, once its time was looked at. It is as if
     /// the cast were kept and taken out.
+    #[inline(always)]
     pub fn take_in_order(&mut self, cast: Cast, time: VectorTime) -> Message
         requires { TakesAt (cast_fields cast) time self.old }
         ensures takes { TakesInOrder (cast_fields cast) self.old self.new result }

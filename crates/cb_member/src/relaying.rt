@@ -27,6 +27,7 @@ pub fn no_relays(alloc: Global, seat: Identity) -> Result<Vec<Relays>, NoMemory>
 }
 
 /// Keeps the frame of a cast or a burst of another member that was received. It takes no memory.
+#[inline(always)]
 pub fn relay(relays: &mut [Relays], sender: u32, first: u32, last: u32, frame: Bytes)
     requires { sender < length relays.old }
     ensures relays { RelaysFrame sender first last frame relays.old relays.new }

@@ -102,7 +102,7 @@ impl Singles {
         Some(single)
     }
 
-    /// Keeps them in their sender's buffer, of whose messages so many are delivered.
+    /// Keeps them in their sender's buffer. This many of the sender's messages are delivered.
     pub fn keep_in(self, buffer: &mut Reorder, delivered: u32)
         requires { CanKeepInTurn delivered (left_in self) buffer.old }
         ensures { AreKept buffer.old (left_in self) buffer.new }

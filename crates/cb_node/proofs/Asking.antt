@@ -1,6 +1,5 @@
 -- A tick with what it posts, and the row of help frames, one sender behind the other.
-use Rattle.std.proofs.Common.{◌≡◌, ℕ, ◌+◌, ◌-◌, ◌<◌, ◌≤◌, ◌%◌, Bool, true, false, List, [], ◌++◌, length, Option, None, Result, Err, inl, inr, refl, sym, ap, subst, ◌∙◌, append_assoc, arith}
-use Rattle.std.specs.Prelude.{nat_lt}
+use Rattle.std.proofs.Common.{◌≡◌, ℕ, ◌+◌, ◌-◌, ◌<◌, ◌≤◌, Bool, true, false, if◌then◌else◌, List, [], ◌++◌, Option, None, Result, Err, inl, inr, refl, sym, ap, subst, ◌∙◌, append_assoc, arith}
 use Rattle.std.specs.List.{range_with_len}
 use Rattle.std.proofs.lemmas.List.{append-nil}
 use Rattle.cb_history.specs.declared.answer.HelpFault.{HelpFault}
@@ -51,42 +50,31 @@ is_bad_member m sender (inl answered) = answered
 is_bad_member m sender (inr (by_memory, _, _)) = absurd (not_by_memory by_memory)
 
 -- a tick, of what stood before it and behind it
-pub ticks_in : (old new : KeptState) (before after : MemberState) (ticked : Ticked) (asks : Bool) → old.kept ≡ before → new.kept ≡ after → HasTicked before after ticked
-    → new.post ≡ old.post ++ ticked.out.items → new.refused ≡ old.refused → asks ≡ nat_lt 1 (length ticked.out.items) → TicksIn (work_of old) (work_of new) asks
-ticks_in old new before after ticked asks b a h post refused asks_is = record {
+pub ticks_in : (old new : KeptState) (before after : MemberState) (ticked : Ticked) → old.kept ≡ before → new.kept ≡ after → HasTicked before after ticked
+    → new.post ≡ old.post ++ ticked.out.items → new.refused ≡ old.refused → TicksIn (work_of old) (work_of new)
+ticks_in old new before after ticked b a h post refused = record {
   ticked = ticked;
   ticks = subst (λ (m : MemberState). HasTicked m new.kept ticked) (sym b) (subst (λ (m : MemberState). HasTicked before m ticked) (sym a) h);
   post = post;
   refused = refused;
-  asks_is = asks_is;
 }
 
-pub not_both : (b : Bool) → b ≡ false → b ≡ true → ⊥
-not_both b is_false is_true =
-    let e : false ≡ true = sym is_false ∙ is_true in
-    absurd cc
-
 -- behind it third members were asked
-pub ticks_and_asks : (old mid new : KeptState) (asks : Bool) (ticks : ℕ) → TicksIn (work_of old) (work_of mid) asks → ticks % 4 ≡ 0 → new ≡ record mid { post = new.post } → new.post ≡ mid.post ++ helps_of mid.kept
-    → HasMadeTick (work_of old) (work_of new) ticks
-ticks_and_asks old mid new asks ticks t fourth same asked = record {
-  asks = asks;
+pub ticks_and_asks : (old mid new : KeptState) (counted asks : Bool) → TicksIn (work_of old) (work_of mid) → counted ≡ asks → counted ≡ true → new ≡ record mid { post = new.post } → new.post ≡ mid.post ++ helps_of mid.kept
+    → HasMadeTick (work_of old) (work_of new) asks
+ticks_and_asks old mid new counted asks t is is_true same asked = record {
   ticked = work_of mid;
   ticks_in = t;
-  asked = helps_of mid.kept;
-  fourth = λ _. refl;
-  other = λ not. absurd (not fourth);
-  after = ap work_of same ∙ ap (λ (post : List Outgoing). let w : Work = record { member = mid.kept; post = post; refused = mid.refused } in w) asked;
+  after = ap work_of same
+      ∙ ap (λ (post : List Outgoing). let w : Work = record { member = mid.kept; post = post; refused = mid.refused } in w)
+      (asked ∙ ap (λ (b : Bool). mid.post ++ (if b then helps_of mid.kept else [])) (sym is_true ∙ is));
 }
 
 -- or nobody was
-pub ticks_alone : (old new : KeptState) (asks : Bool) (ticks : ℕ) → TicksIn (work_of old) (work_of new) asks → (ticks % 4 ≡ 0 → ⊥) → HasMadeTick (work_of old) (work_of new) ticks
-ticks_alone old new asks ticks t other = record {
-  asks = asks;
+pub ticks_alone : (old new : KeptState) (counted asks : Bool) → TicksIn (work_of old) (work_of new) → counted ≡ asks → counted ≡ false → HasMadeTick (work_of old) (work_of new) asks
+ticks_alone old new counted asks t is is_false = record {
   ticked = work_of new;
   ticks_in = t;
-  asked = [];
-  fourth = λ fourth. absurd (other fourth);
-  other = λ _. refl;
-  after = ap (λ (post : List Outgoing). let w : Work = record { member = new.kept; post = post; refused = new.refused } in w) (sym (append-nil new.post));
+  after = ap (λ (post : List Outgoing). let w : Work = record { member = new.kept; post = post; refused = new.refused } in w)
+      (sym (append-nil new.post) ∙ ap (λ (b : Bool). new.post ++ (if b then helps_of new.kept else [])) (sym is_false ∙ is));
 }

@@ -6,3 +6,4 @@ pub mod Turns
 pub mod Sending
 pub mod Hearing
 pub mod Asking
+pub mod Doubling

@@ -1,5 +1,5 @@
 -- What a kept member has in memory, and what it does in between.
-use Rattle.std.specs.Prelude.{◌≡◌, ◌⊎◌, ℕ, nat_lt, Bool, List, [], ◌∷◌, ◌++◌, length, take, Option, Some, None, Result, Ok, Err, option_map}
+use Rattle.std.specs.Prelude.{◌≡◌, ◌⊎◌, ℕ, List, [], ◌∷◌, ◌++◌, length, take, Option, Some, None, Result, Ok, Err, option_map}
 use Rattle.std.specs.List.{flat_map, range_with_len}
 use Rattle.std.specs.declared.alloc.Global.{Global}
 use Rattle.std.specs.declared.vec.Vec.{Vec}
@@ -88,13 +88,12 @@ IsHindered old new bytes turns.HistoryFull = RefusesIn (work_of old) (work_of ne
 IsHindered old new bytes turns.NoMemory = RefusesIn (work_of old) (work_of new) bytes (Some turns.NoMemory)
 IsHindered old new bytes (turns.NotKept kept) = (work_of new ≡ work_of old) × (new.fault ≡ Some kept)
 
--- A tick was made, and what it sends is posted. It asks for something where that is more than the status.
-pub record TicksIn (old new : Work) (asks : Bool) : Type 0 where
+-- a tick was made, and what it sends is posted
+pub record TicksIn (old new : Work) : Type 0 where
   pub ticked : Ticked
   pub ticks : HasTicked old.member new.member ticked
   pub post : new.post ≡ old.post ++ ticked.out.items
   pub refused : new.refused ≡ old.refused
-  pub asks_is : asks ≡ nat_lt 1 (length ticked.out.items)
 
 -- the help frame, where there is one
 abbrev pub frame_of : Result (Option Outgoing) HelpFault → List Outgoing

@@ -8,9 +8,8 @@ use Rattle.cb_history.specs.declared.answer.CastRefusal.TheVariants as casts
 use Rattle.cb_history.specs.declared.answer.Outgoing.{Outgoing}
 use Rattle.cb_history.specs.Facts.{EntryFields}
 use Rattle.cb_history.specs.Legal.{IsLegal}
-use Rattle.cb_history.specs.State.{HasCast, HasCastBurst, IsMemberState, MemberState, events_in, stable_in}
+use Rattle.cb_history.specs.State.{HasCast, HasCastBurst, IsMemberState, MemberState, events_in}
 use Rattle.cb_member.specs.Casting.{RefusesBurstExactly, RefusesExactly}
-use Rattle.cb_member.specs.Readings.{delivered_of_in}
 use Rattle.cb_node.specs.declared.fault.NodeBurstFault.{NodeBurstFault}
 use Rattle.cb_node.specs.declared.fault.NodeBurstFault.TheVariants as burstings
 use Rattle.cb_node.specs.declared.fault.NodeCastFault.{NodeCastFault}
@@ -51,10 +50,6 @@ all_kept m refused = record { member = m; kept = m; post = []; written = length 
 -- What the keeper has goes on with what is kept, up to where it fails.
 abbrev pub KeepsUp : {K : Type 0} → (K → List EntryFields → Type 0) → K → K → KeptState → KeptState → Type 0
 KeepsUp has before after old new = Keeps has before after old.fault new.fault old.kept.entries new.kept.entries
-
--- every other member is known to have delivered all own casts
-abbrev pub AreOwnStable : MemberState → Type 0
-AreOwnStable m = delivered_of_in m m.seat.me ≡ Some (stable_in m)
 
 -- ---- casts
 

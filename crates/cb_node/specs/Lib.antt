@@ -5,4 +5,5 @@ pub mod Keeping
 pub mod Kept
 pub mod Desk
 pub mod Turning
+pub mod Bounds
 pub mod Pacing

@@ -1,5 +1,5 @@
 -- A turn of a node.
-use Rattle.std.specs.Prelude.{◌≡◌, ℕ, ◌+◌, ◌%◌, ◌≢◌, Bool, List, [], ◌++◌, length, take, slice_range}
+use Rattle.std.specs.Prelude.{◌≡◌, ℕ, ◌+◌, Bool, if◌then◌else◌, List, [], ◌++◌, length, take, slice_range}
 use Rattle.cb_delay.specs.declared.message.Event.{Event}
 use Rattle.cb_history.specs.declared.answer.Outgoing.{Outgoing}
 use Rattle.cb_history.specs.State.{events_in}
@@ -54,12 +54,8 @@ pub record HasTurned (old new : KeptState) (before after : ℕ) (handed to : ℕ
   pub all : to ≡ length (events_in new.kept)
   pub news_are : events_in new.kept ≡ take handed (events_in old.kept) ++ news
 
--- One more tick was made, the last of so many. Behind each fourth one third members are asked for all that is missing.
-pub record HasMadeTick (old new : Work) (ticks : ℕ) : Type 0 where
-  pub asks : Bool
+-- One more tick was made. Where third members are to be asked after it they are, for all that is missing.
+pub record HasMadeTick (old new : Work) (asks : Bool) : Type 0 where
   pub ticked : Work
-  pub ticks_in : TicksIn old ticked asks
-  pub asked : List Outgoing
-  pub fourth : ticks % 4 ≡ 0 → asked ≡ helps_of ticked.member
-  pub other : ticks % 4 ≢ 0 → asked ≡ []
-  pub after : new ≡ record ticked { post = ticked.post ++ asked }
+  pub ticks_in : TicksIn old ticked
+  pub after : new ≡ record ticked { post = ticked.post ++ (if asks then helps_of ticked.member else []) }

@@ -4,14 +4,13 @@
 //! is made before the call, so what it answers is posted whole.
 
 ghost use Rattle.std.specs.Prelude.{◌≡◌, ◌⊎◌, ◌≤◌, ◌<◌, ◌∷◌, ◌++◌, [], IfErr, IfOk, MatchResult, None, OnErr, OnOk, Some, length};
-ghost use Rattle.std.specs.Bool.{Decides};
 ghost use Rattle.std.specs.Vec.{vec_capacity, vec_len};
 ghost use Rattle.cb_frames.specs.Fields.{One};
 ghost use Rattle.cb_history.specs.Load.{many_of};
 ghost use Rattle.cb_history.specs.State.{answer_to_help};
 ghost use Rattle.cb_node.specs.Course.{Goes, to_all};
 ghost use Rattle.cb_node.specs.Desk.{HasHeard, IsDesk, IsEntering, IsHindered, IsSameButPost, NotTakenBy, TakesIn, TicksIn, frame_of, helps_of, state_in};
-ghost use Rattle.cb_node.specs.Kept.{AreOwnStable, HasNamedBurst, HasNamedCast, KeepsUp, RefusesBurstAt, RefusesCastAt, all_kept, work_of};
+ghost use Rattle.cb_node.specs.Kept.{HasNamedBurst, HasNamedCast, KeepsUp, RefusesBurstAt, RefusesCastAt, all_kept, work_of};
 ghost use Rattle.cb_node.specs.Refusing.{HinderNone, hindrance, none_refused};
 
 use crate::fault::{NodeBurstFault, NodeCastFault, TurnFault};
@@ -124,7 +123,9 @@ impl Desk {
         if make_room(&mut self.post, 1).is_err() {
             return Err(NotTaken::Refused(ArriveRefusal::NoMemory));
         }
-        match self.member.receive_noted(bytes) {
+        let received = self.member.receive_noted(&bytes);
+        drop(bytes);
+        match received {
             Ok((out, noted)) => match self.enter(keeper, out, noted) {
                 Ok(()) => Ok(()),
                 Err(fault) => Err(NotTaken::NotKept(fault)),
@@ -203,11 +204,11 @@ impl Desk {
         Ok(Named { first, count, time })
     }
 
-    /// Ticks. Answers whether something is missing, so that it was asked for.
-    pub fn tick<K: Keeper>(&mut self, keeper: &mut K) -> Result<bool, TurnFault>
+    /// Ticks.
+    pub fn tick<K: Keeper>(&mut self, keeper: &mut K) -> Result<(), TurnFault>
         requires { IsDesk self.old }
         ensures desk { IsDesk self.new }
-        ensures ticked { IfOk result (TicksIn (work_of (state_in self.old))
+        ensures ticked { OnOk result (TicksIn (work_of (state_in self.old))
             (work_of (state_in self.new))) }
         ensures refused { self.new.refused ≡ self.old.refused }
         ensures goes { Goes (work_of (state_in self.old)) (work_of (state_in self.new)) }
@@ -225,9 +226,8 @@ impl Desk {
         match self.member.tick_noted() {
             Ok((ticked, noted)) => {
                 let Ticked { entered: _, out } = ticked;
-                let asks = out.len() > 1;
                 match self.enter(keeper, out, noted) {
-                    Ok(()) => Ok(asks),
+                    Ok(()) => Ok(()),
                     Err(fault) => Err(TurnFault::NotKept(fault)),
                 }
             }
@@ -280,13 +280,6 @@ impl Desk {
             Err(HelpFault::BadMember) => Ok(()),
             Err(HelpFault::NoMemory) => Err(TurnFault::NoMemory),
         }
-    }
-
-    /// Whether every other member is known to have delivered all own casts.
-    pub fn is_stable(&self) -> bool
-        ensures { Decides result (AreOwnStable self.now.member) }
-    {
-        self.member.delivered_of(self.member.seat().me()) == Some(self.member.stable())
     }
 
     /// Room for one list more that is to be sent, and a list with room for one frame.

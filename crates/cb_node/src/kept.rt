@@ -1,12 +1,11 @@
 //! A member whose entries are kept before anything is sent of them, with what is to be sent.
 
 ghost use Rattle.std.specs.Prelude.{◌≡◌, ◌≤◌, ◌++◌, [], IfErr, IfOk, MatchResult, None, OnErr, OnOk};
-ghost use Rattle.std.specs.Bool.{Decides};
 ghost use Rattle.cb_frames.specs.Fields.{One};
 ghost use Rattle.cb_history.specs.Load.{many_of};
 ghost use Rattle.cb_node.specs.Course.{Goes};
 ghost use Rattle.cb_node.specs.Desk.{HasHeard, IsHindered, IsSameButPost, TicksIn, frames_in, helps_of};
-ghost use Rattle.cb_node.specs.Kept.{AreOwnStable, HasNamedBurst, HasNamedCast, IsKeptState, KeepsUp, RefusesBurstAt, RefusesCastAt, all_kept, work_of};
+ghost use Rattle.cb_node.specs.Kept.{HasNamedBurst, HasNamedCast, IsKeptState, KeepsUp, RefusesBurstAt, RefusesCastAt, all_kept, work_of};
 ghost use Rattle.cb_node.specs.Refusing.{HinderNone, none_refused};
 
 use crate::desk::Desk;
@@ -148,9 +147,9 @@ impl KeptMember {
         self.desk.cast_burst(keeper, payloads)
     }
 
-    /// Ticks. Answers whether something is missing, so that it was asked for.
-    pub fn tick<K: Keeper>(&mut self, keeper: &mut K) -> Result<bool, TurnFault>
-        ensures ticked { IfOk result (TicksIn (work_of self.old) (work_of self.new)) }
+    /// Ticks.
+    pub fn tick<K: Keeper>(&mut self, keeper: &mut K) -> Result<(), TurnFault>
+        ensures ticked { OnOk result (TicksIn (work_of self.old) (work_of self.new)) }
         ensures same { OnErr result (work_of self.new ≡ work_of self.old) }
         ensures refused { self.new.refused ≡ self.old.refused }
         ensures goes { Goes (work_of self.old) (work_of self.new) }
@@ -168,12 +167,5 @@ impl KeptMember {
         ensures same { IsSameButPost self.old self.new }
     {
         self.desk.help()
-    }
-
-    /// Whether every other member is known to have delivered all own casts.
-    pub fn is_stable(&self) -> bool
-        ensures { Decides result (AreOwnStable self.now.member) }
-    {
-        self.desk.is_stable()
     }
 }

@@ -9,6 +9,7 @@
 //! arrives or when; `docs/GUIDE.md` shows a program's loop.
 #![tactic(auto)]
 
+mod bounds;
 mod desk;
 mod ends;
 mod fault;
@@ -18,6 +19,7 @@ mod node;
 mod pace;
 mod refused;
 
+pub use bounds::{BadBounds, Bounds};
 pub use cb_journal::{KeepFault, Keeper, NoJournal};
 pub use cb_links::{Inlet, LinkFault, Outlet, Received, Unsent, WaitingInlet};
 pub use cb_member::{
@@ -30,7 +32,7 @@ pub use fault::{NodeBurstFault, NodeCastFault, TurnFault};
 pub use kept::KeptMember;
 pub use named::Named;
 pub use node::{MOST_FRAMES, Node, now, shorter};
-pub use pace::{BadBounds, Bounds, Pacing};
+pub use pace::Pacing;
 pub use refused::Refused;
 
 #[cfg(test)]

@@ -1,18 +1,21 @@
 //! A member with its link and its pace.
 
-ghost use Rattle.std.specs.Prelude.{◌≡◌, ◌≤◌, ◌+◌, ◌%◌, ◌^◌, IfErr, IfOk, MatchOption, OnErr, OnOk, None, [], length};
+ghost use Rattle.std.specs.Prelude.{◌≡◌, ◌≤◌, IfErr, IfOk, MatchOption, OnErr, OnOk, None, [], length, min};
+ghost use Rattle.std.specs.Duration.{as_nanos};
 ghost use Rattle.cb_frames.specs.Fields.{One};
 ghost use Rattle.cb_history.specs.Load.{many_of};
 ghost use Rattle.cb_history.specs.State.{events_in};
 ghost use Rattle.cb_node.specs.Kept.{HasNamedBurst, HasNamedCast, KeepsUp, RefusesBurstAt, RefusesCastAt, all_kept, work_of};
+ghost use Rattle.cb_node.specs.Pacing.{asks_thirds, with_tick};
 ghost use Rattle.cb_node.specs.Refusing.{HinderNone, none_refused};
 ghost use Rattle.cb_node.specs.Turning.{HasGone, HasMadeTick, HasTurned, between, none_counted};
 
+use crate::bounds::Bounds;
 use crate::ends::{Counts, Ends};
 use crate::fault::{NodeBurstFault, NodeCastFault, TurnFault};
 use crate::kept::KeptMember;
 use crate::named::Named;
-use crate::pace::{Bounds, Pacing};
+use crate::pace::Pacing;
 use crate::refused::Refused;
 use cb_journal::Keeper;
 use cb_links::{Outlet, Received, WaitingInlet};
@@ -272,7 +275,7 @@ impl<I: WaitingInlet, O: Outlet, K: Keeper> Node<I, O, K> {
         }
     }
 
-    /// Ticks where the time has come, and behind each fourth tick asks third members.
+    /// Ticks where the time has come, and after some ticks asks third members.
     fn tick_if_due<R: Clock>(&mut self, rt: &R) -> Result<(), TurnFault>
         ensures gone { HasGone self.old.kept self.new.kept self.old.ends.counts.offered
             self.new.ends.counts.offered }
@@ -297,13 +300,12 @@ impl<I: WaitingInlet, O: Outlet, K: Keeper> Node<I, O, K> {
         ensures handed { self.new.to ≡ self.old.to }
         ensures refused { self.new.kept.refused ≡ self.old.kept.refused }
         ensures ticked { OnOk result (HasMadeTick (work_of self.old.kept) (work_of self.new.kept)
-            self.new.pacing.ticks) }
-        ensures counted { OnOk result (self.new.pacing.ticks
-            ≡ (self.old.pacing.ticks + 1) % 2 ^ 64) }
+            (asks_thirds self.new.pacing)) }
+        ensures counted { OnOk result (self.new.pacing
+            ≡ with_tick self.old.pacing self.new.kept.written) }
     {
-        let asks = self.kept.tick(&mut self.keeper)?;
-        let is_quiet = !asks && self.kept.is_stable();
-        if self.pacing.count(self.kept.written(), is_quiet) {
+        self.kept.tick(&mut self.keeper)?;
+        if self.pacing.count(self.kept.written()) {
             self.kept.help()?;
         }
         Ok(())
@@ -316,6 +318,8 @@ pub fn now(rt: &impl Clock) -> Option<Duration> {
 }
 
 /// The shorter of two times.
-pub fn shorter(a: Duration, b: Duration) -> Duration {
+pub fn shorter(a: Duration, b: Duration) -> Duration
+    ensures { as_nanos result ≡ min (as_nanos a) (as_nanos b) }
+{
     if a < b { a } else { b }
 }

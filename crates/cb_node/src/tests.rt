@@ -3,6 +3,7 @@
 ghost use Rattle.std.specs.Prelude.{◌≡◌};
 
 mod fakes;
+mod pacing;
 mod quiet;
 mod talking;
 mod three;

@@ -22,13 +22,13 @@ use Rattle.cb_history.specs.Legal.{AreEntriesOf, Call, ToCast, ToTake, ToTick, a
 use Rattle.cb_history.specs.LegalFacts.{AreFactsOf}
 use Rattle.cb_history.specs.State.{HasTicked, RefusesArrival, RefusesTick, answer_to_cast, entry_by, facts_in, next_in, state_after}
 use Rattle.cb_history.proofs.Histories.{entries_say_legal_facts}
-use Rattle.cb_member.specs.declared.recorder.taken.Received.{Received}
-use Rattle.cb_member.specs.declared.recorder.taken.Received.TheVariants as received
+use Rattle.cb_member.specs.declared.received.Received.{Received}
+use Rattle.cb_member.specs.declared.received.Received.TheVariants as received
 use Rattle.cb_member.specs.CoreCalls.{HasReceivedWith, JoinsAs}
 use Rattle.cb_member.specs.CoreMember.{Core, GoesOn, OnEach, StandsFor, grown_by, unlimited}
 use Rattle.cb_member.specs.Received.{count_said, deliveries_in, received_says}
 use Rattle.cb_replay.specs.CoreReplaying.{HasJoined, SaysAddedOnEach}
-use Rattle.cb_replay.proofs.Adding.{arrival_adds, cast_adds, tick_adds}
+use Rattle.cb_member.proofs.Adding.{arrival_adds, cast_adds, tick_adds}
 
 -- the events that a call adds joined the list, whatever history the core stood for
 abbrev pub Joins : Core → Call → List Event → List Event → Type 0

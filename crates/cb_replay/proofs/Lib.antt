@@ -1,4 +1,3 @@
-pub mod Adding
 pub mod CoreReplays
 pub mod Replays
 pub mod Returns

@@ -72,7 +72,7 @@ fn casts(
         (ToCast (One payload.now))
         (entry_fields entry.now)) }
 {
-    match core.cast_into(payload, events) {
+    match core.cast(payload, events) {
         Ok((_frame, noted)) => Ok(is_noted(Some(noted), entry)),
         Err(CastRefusal::NoMemory) => Err(AllocError),
         Err(_refusal) => Ok(false),
@@ -89,7 +89,7 @@ fn casts_burst(
         (ToCast (many_of payloads.now))
         (entry_fields entry.now)) }
 {
-    match core.cast_burst_into(payloads, events) {
+    match core.cast_burst(payloads, events) {
         Ok((_frame, noted)) => Ok(is_noted(Some(noted), entry)),
         Err(BurstRefusal::NoMemory) => Err(AllocError),
         Err(_refusal) => Ok(false),

@@ -32,8 +32,25 @@ fn groups_in(v: u32) -> usize
 }
 
 /// Appends the one spelling of `v` to `out`. Out of memory, `out` keeps its bytes.
+#[inline(always)]
+#[tactic(auto, unfolding(crate::specs::Reading::spelling))]
 pub fn put(v: u32, out: &mut Vec<u8>) -> Result<(), AllocError>
     ensures text { OnOk result (AppendsSpelling out.old.items out.new.items v) }
+    ensures exact { OnOk result (out.new.items ≡ out.old.items ++ spelling v) }
+    ensures err { OnErr result (out.new.items ≡ out.old.items) }
+    ensures full { OnErr result (vec_capacity out.old < vec_len out.old + len (spelling v)) }
+{
+    // Most numbers have one byte, and most lists room for it.
+    if v < 0x80 && out.len() < out.capacity() {
+        out.push_reserved(v as u8);
+        return Ok(());
+    }
+    put_groups(v, out)
+}
+
+/// As `put`, for numbers of any length.
+#[inline(never)]
+fn put_groups(v: u32, out: &mut Vec<u8>) -> Result<(), AllocError>
     ensures exact { OnOk result (out.new.items ≡ out.old.items ++ spelling v) }
     ensures err { OnErr result (out.new.items ≡ out.old.items) }
     ensures full { OnErr result (vec_capacity out.old < vec_len out.old + len (spelling v)) }

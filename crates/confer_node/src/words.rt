@@ -16,7 +16,7 @@ use std::time::Duration;
 /// The names of the links.
 const LINKS: &[&str] = &["udp", "tcp"];
 
-/// The milliseconds between two ticks while all is quiet.
+/// The milliseconds between two ticks at most, after many that brought no news.
 const SLOW: u64 = 1_000;
 
 const HELP: &str = "\
@@ -125,7 +125,7 @@ fn link_of(options: &ArgMatches<'_>) -> LinkKind {
     }
 }
 
-/// The time between two ticks that is said, and that while all is quiet.
+/// The time between two ticks that is said, and the longest one.
 fn bounds_of(options: &ArgMatches<'_>) -> Result<Bounds, Fault> {
     let quick = Duration::from_millis(u64::from(number(options, "tick")?));
     match Bounds::new(quick, Duration::from_millis(SLOW)) {
@@ -227,8 +227,8 @@ fn tick_option<'a>(alloc: Global) -> Arg<'a> {
         "tick",
         "MILLISECONDS",
         value_parser!(u32).range(1..=1_000),
-        "How far apart ticks are while something is missing or not acknowledged, 1 to 1000; not faster than a round \
-         trip to the others, else what is on its way is sent twice",
+        "How far apart ticks are after news, 1 to 1000; not faster than a round trip to the others, else what is on \
+         its way is sent twice. Each tick that brings no news doubles the time to the next one, up to a second",
     )
     .default_value("20")
 }

@@ -1,5 +1,5 @@
 -- What a call by a handle does.
-use Rattle.std.specs.Prelude.{◌≡◌, ◌≢◌, ◌⊎◌, ◌↔◌, ℕ, ◌<◌, ◌≤◌, List, length, map, Option, Some, None}
+use Rattle.std.specs.Prelude.{◌≡◌, ◌≢◌, ◌⊎◌, ◌↔◌, ℕ, ◌<◌, ◌≤◌, false, List, length, map, Option, Some, None}
 use Rattle.cb_frames.specs.Fields.{Load}
 use Rattle.cb_history.specs.declared.answer.CastRefusal.{CastRefusal}
 use Rattle.cb_history.specs.declared.answer.ArriveRefusal.{ArriveRefusal}
@@ -8,8 +8,9 @@ use Rattle.cb_history.specs.declared.answer.HelpFault.{HelpFault}
 use Rattle.cb_history.specs.Facts.{EntryFields}
 use Rattle.cb_history.specs.Group.{Parameters}
 use Rattle.cb_history.specs.Known.{ranges_of}
-use Rattle.cb_history.specs.State.{missing_in, stable_of_in, RefusesTick, RefusesHelp}
+use Rattle.cb_history.specs.State.{MemberState, missing_in, stable_of_in, RefusesTick, RefusesHelp}
 use Rattle.cb_member.specs.Casting.{RefusesExactly}
+use Rattle.cb_member.specs.Helping.{may_ask_among, RefusesHelpAmong}
 use Rattle.cb_member.specs.Readings.{acknowledged_by_in, waits_for_in}
 use Rattle.cb_handle.specs.declared.held.Held.{Held}
 use Rattle.cb_handle.specs.declared.held.LoadedRefusal.{LoadedRefusal}
@@ -20,7 +21,7 @@ use Rattle.cb_handle.specs.declared.rows.Received.{Received}
 use Rattle.cb_handle.specs.Copies.{copied}
 use Rattle.cb_handle.specs.Entries.{delayed_row, range_row}
 use Rattle.cb_handle.specs.Opening.{RefusesToOpen, IsNewOf}
-use Rattle.cb_handle.specs.Calling.{OnEach, entries_held, seat_held, HasCastToSend, HasReceivedToSend, HasTickedToSend, HasHelpToSend, RefusesBytes, HasReceivedLoaded, RefusesLoaded, with_loaded}
+use Rattle.cb_handle.specs.Calling.{OnEach, entries_held, seat_held, HasCastToSend, HasReceivedToSend, HasTickedToSend, HasHelpToSend, HasHelpAmongToSend, RefusesBytes, HasReceivedLoaded, RefusesLoaded, with_loaded}
 use Rattle.cb_handle.specs.Parts.{HasReceivedParts, RefusesParts}
 use Rattle.cb_handle.specs.declared.held.PayloadsRefusal.{PayloadsRefusal}
 use Rattle.cb_handle.specs.Payloads.{AreThere, RefusesPayloads, burst_in}
@@ -80,11 +81,20 @@ Ticks before after code =
 abbrev pub IsNoOther : Held → ℕ → Type 0
 IsNoOther held member = ((seat_held held).group.size ≤ member) ⊎ (member ≡ (seat_held held).me)
 
--- a third member is asked for the missing casts of another one, where one can be; the code of a bad member stands just for one that is
--- no other
-pub record Helps (member : ℕ) (before after : Held) (code : ℕ) : Type 0 where
-  pub asks : IsDoneOr (HasHelpToSend before after member) HelpFault help_code (λ fault. OnEach before (λ m. RefusesHelp m member fault)) before after code
-  pub bad_member : (code ≡ BAD_MEMBER) ↔ IsNoOther before member
+-- a third member is asked for casts, where one can be; the code of a bad member stands just for what is one
+pub record Asks (Asked : Held → Held → Type 0) (Refuses : MemberState → HelpFault → Type 0) (IsBad : Held → Type 0) (before after : Held) (code : ℕ) : Type 0 where
+  pub asks : IsDoneOr (Asked before after) HelpFault help_code (λ fault. OnEach before (λ m. Refuses m fault)) before after code
+  pub bad_member : (code ≡ BAD_MEMBER) ↔ IsBad before
+
+-- for the missing casts of another one
+abbrev pub Helps : ℕ → Held → Held → ℕ → Type 0
+Helps member = Asks (λ before after. HasHelpToSend before after member) (λ m fault. RefusesHelp m member fault) (λ held. IsNoOther held member)
+
+-- and it is one of these
+abbrev pub HelpsAmong : ℕ → List ℕ → Held → Held → ℕ → Type 0
+HelpsAmong member members =
+    Asks (λ before after. HasHelpAmongToSend before after member members) (λ m fault. RefusesHelpAmong m member members fault)
+    (λ held. may_ask_among (seat_held held) member members ≡ false)
 
 -- a reading changes nothing
 abbrev pub Reads : (Held → ℕ → Type 0) → Held → Held → ℕ → Type 0

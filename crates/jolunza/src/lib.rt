@@ -16,7 +16,7 @@ ghost use Rattle.cb_handle.specs.Calling.{OnEach, counts_of, entries_held, event
 ghost use Rattle.jolunza.specs.declared.code.TheConstants.{DONE};
 ghost use Rattle.jolunza.specs.Senders.{TellsSender};
 ghost use Rattle.jolunza.specs.Calls.{Holds, Resumes, ShowsEntryLine, ShowsHead};
-ghost use Rattle.jolunza.specs.Calls.{Calls, Casts, CastsBurst, Receives, Loads, ReceivesLoaded, ReceivesParts, Ticks, Helps, OfMember, Reads, IsDone, ShowsAcknowledged, ShowsAt, ShowsDelayed, ShowsMissing, ShowsStable, Opens};
+ghost use Rattle.jolunza.specs.Calls.{Calls, Casts, CastsBurst, Receives, Loads, ReceivesLoaded, ReceivesParts, Ticks, Helps, HelpsAmong, OfMember, Reads, IsDone, ShowsAcknowledged, ShowsAt, ShowsDelayed, ShowsMissing, ShowsStable, Opens};
 
 mod code;
 mod journal;
@@ -204,6 +204,26 @@ pub extern "C" fn jolunza_help(alloc: Global, handle: &mut Handle, member: u32) 
         return CLOSED;
     };
     let answer = held.help(alloc, member);
+    put(handle, held);
+    code::of_help(answer)
+}
+
+/// Asks as `jolunza_help` does, but the first of these members that is known to have the first missing cast. The member itself and the one
+/// whose casts are missing are passed over among them.
+#[unsafe(no_mangle)]
+#[tactic(auto, using(crate::proofs::Helping::helps_among_so))]
+pub extern "C" fn jolunza_help_among(
+    alloc: Global,
+    handle: &mut Handle,
+    member: u32,
+    members: &[u32],
+) -> u32
+    ensures { Calls (HelpsAmong member members.now) handle.old.held handle.new.held result }
+{
+    let Some(mut held) = take(alloc, handle) else {
+        return CLOSED;
+    };
+    let answer = held.help_among(alloc, member, members);
     put(handle, held);
     code::of_help(answer)
 }

@@ -91,7 +91,7 @@ impl Forms {
     pub fn cast(&mut self, rt: &impl Abort) {
         let plain = self.plain.cast(b"").is_ok();
         let quick = self.quick.cast(b"").is_ok();
-        let core = match self.core.cast_into(b"", &mut self.events) {
+        let core = match self.core.cast(b"", &mut self.events) {
             Ok((frame, entry)) => {
                 drop(frame);
                 self.keep(rt, Some(entry));

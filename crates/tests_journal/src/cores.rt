@@ -36,13 +36,15 @@ fn takes(rt: &impl Abort, core: &mut CoreMember, frame: &[u8], journal: &mut Jou
 }
 
 fn casts(rt: &impl Abort, core: &mut CoreMember, journal: &mut Journal) {
-    let (_done, noted) = core.cast_noted(b"yo").expect(rt, "it is cast");
+    let mut events = Vec::new(*journal.allocator());
+    let (_frame, noted) = core.cast(b"yo", &mut events).expect(rt, "it is cast");
     journal.push(noted).expect(rt, "memory");
 }
 
 fn casts_two(rt: &impl Abort, core: &mut CoreMember, journal: &mut Journal) {
-    let (_done, noted) = core
-        .cast_burst_noted(&[b"one", b"two"])
+    let mut events = Vec::new(*journal.allocator());
+    let (_frame, noted) = core
+        .cast_burst(&[b"one", b"two"], &mut events)
         .expect(rt, "it is cast");
     journal.push(noted).expect(rt, "memory");
 }
@@ -93,9 +95,10 @@ fn frames_of(rt: &impl Abort, alloc: Global, cast: Bytes, ticked: Vec<Outgoing>)
 
 /// What the core sends next.
 fn sent(rt: &impl Abort, alloc: Global, core: &mut CoreMember) -> Vec<Bytes> {
-    let cast = core.cast(b"next").expect(rt, "it is cast");
+    let mut events = Vec::new(alloc);
+    let (frame, _entry) = core.cast(b"next", &mut events).expect(rt, "it is cast");
     let ticked = core.tick().expect(rt, "it ticks");
-    frames_of(rt, alloc, cast.out, ticked.out)
+    frames_of(rt, alloc, frame, ticked.out)
 }
 
 /// What was sent behind its end is what it would have sent, and it has the same time.

@@ -55,12 +55,11 @@ fn group(rt: &impl Abort) -> Group {
     Group::new(7, 3, 4).expect(rt, "the numbers are those of a group")
 }
 
-/// Three members for the same calls: one with a history, a core, and a core whose caller keeps events.
+/// Two members for the same calls: one with a history, and a core, whose caller keeps its events.
 #[derive(Drop)]
 struct Casters {
     member: Member,
     core: CoreMember,
-    joined: CoreMember,
     events: Vec<Event>,
 }
 
@@ -70,12 +69,11 @@ impl Casters {
         Casters {
             member: Member::new(alloc, group, me, 100).expect(rt, "a member"),
             core: CoreMember::new(alloc, group, me).expect(rt, "a core"),
-            joined: CoreMember::new(alloc, group, me).expect(rt, "a core"),
             events: Vec::new(alloc),
         }
     }
 
-    /// Whether all three do the step as they are to.
+    /// Whether both do the step as they are to.
     fn does(&mut self, step: Step) -> bool {
         match step {
             Step::Burst(payloads, wanted) => self.casts_burst(payloads, wanted),
@@ -91,20 +89,18 @@ impl Casters {
     ) -> bool {
         let may = self.core.may_cast_burst(payloads).err();
         let member = self.member.cast_burst_noted(payloads);
-        let core = self.core.cast_burst_noted(payloads);
-        let joined = self.joined.cast_burst_into(payloads, &mut self.events);
-        match (member, core, joined, wanted) {
-            (Ok((one, entry)), Ok((other, noted)), Ok((frame, copy)), Ok(wanted)) => {
-                let alike = is_same_burst(&one, &other) && entry == noted && noted == copy;
-                alike
+        let core = self.core.cast_burst(payloads, &mut self.events);
+        match (member, core, wanted) {
+            (Ok((done, entry)), Ok((frame, noted)), Ok(wanted)) => {
+                entry == noted
                     && may.is_none()
-                    && one.count as usize == payloads.len()
-                    && one.out.as_slice() == wanted
-                    && frame == one.out
+                    && done.count as usize == payloads.len()
+                    && done.out.as_slice() == wanted
+                    && frame == done.out
                     && is_cast_of(&entry, &frame)
             }
-            (Err(one), Err(other), Err(third), Err(wanted)) => {
-                may == Some(wanted) && one == wanted && other == wanted && third == wanted
+            (Err(one), Err(other), Err(wanted)) => {
+                may == Some(wanted) && one == wanted && other == wanted
             }
             _ => false,
         }
@@ -112,47 +108,32 @@ impl Casters {
 
     fn casts(&mut self, payload: &[u8], wanted: Result<&'static [u8], CastRefusal>) -> bool {
         let member = self.member.cast(payload);
-        let core = self.core.cast(payload);
-        let joined = self.joined.cast_into(payload, &mut self.events);
-        match (member, core, joined, wanted) {
-            (Ok(one), Ok(other), Ok((frame, _entry)), Ok(wanted)) => {
-                one.out.as_slice() == wanted && other.out == one.out && frame == one.out
+        let core = self.core.cast(payload, &mut self.events);
+        match (member, core, wanted) {
+            (Ok(done), Ok((frame, _entry)), Ok(wanted)) => {
+                done.out.as_slice() == wanted && frame == done.out
             }
-            (Err(one), Err(other), Err(third), Err(wanted)) => {
-                one == wanted && other == wanted && third == wanted
-            }
+            (Err(one), Err(other), Err(wanted)) => one == wanted && other == wanted,
             _ => false,
         }
     }
 
     fn takes(&mut self, bytes: &Bytes, wanted: Option<&'static [u8]>) -> bool {
-        let mut unread = Vec::new(*self.events.allocator());
-        let core = self.core.receive(bytes, &mut unread);
-        let joined = self.joined.receive(bytes, &mut self.events);
-        match (self.member.receive(bytes), core, joined) {
-            (Ok(one), Ok(other), Ok(third)) => {
-                has_sent(one, wanted) && has_sent(other, wanted) && has_sent(third, wanted)
-            }
+        let core = self.core.receive(bytes, &mut self.events);
+        match (self.member.receive(bytes), core) {
+            (Ok(one), Ok(other)) => has_sent(one, wanted) && has_sent(other, wanted),
             _ => false,
         }
     }
 
-    /// Whether all three have this time, and those that keep events have these.
+    /// Whether both have this time and these events.
     fn are_at(&self, time: [u32; 3], told: &[Told]) -> bool {
         let time = time.as_slice();
         self.member.time().as_slice() == time
             && self.core.time().as_slice() == time
-            && self.joined.time().as_slice() == time
             && are_told(self.member.events(), told)
             && are_told(&self.events, told)
     }
-}
-
-fn is_same_burst(one: &BurstDone, other: &BurstDone) -> bool {
-    one.first == other.first
-        && one.count == other.count
-        && one.time.as_slice() == other.time.as_slice()
-        && one.out == other.out
 }
 
 fn is_cast_of(entry: &Entry, bytes: &Bytes) -> bool {
@@ -318,8 +299,7 @@ fn the_answer_to_a_burst_has_the_time_of_its_first_message(rt: HostRuntime) {
         };
         let wanted = Some((name, payloads.len() as u32, *time));
         let member = first_of(casters.member.cast_burst(payloads));
-        let core = first_of(casters.core.cast_burst(payloads));
-        assert!(rt; member == wanted && core == wanted);
+        assert!(rt; member == wanted);
     }
 }
 

@@ -75,8 +75,8 @@ const ORDERS: &[&[Step]] = &[
 #[derive(Drop)]
 struct Both {
     core: CoreMember,
-    /// What the core delivered in all steps.
-    delivered: Vec<Event>,
+    /// The core's casts and deliveries in all steps.
+    events: Vec<Event>,
     member: Member,
 }
 
@@ -85,7 +85,7 @@ impl Both {
         let group = Group::new(7, 3, 2).expect(rt, "the numbers are those of a group");
         Both {
             core: CoreMember::new(alloc, group, 0).expect(rt, "a core"),
-            delivered: Vec::new(alloc),
+            events: Vec::new(alloc),
             member: Member::new(alloc, group, 0, 100).expect(rt, "a member"),
         }
     }
@@ -101,27 +101,34 @@ impl Both {
     }
 
     fn cast(&mut self, payload: &[u8]) -> bool {
+        let before = self.events.len();
         match (
-            self.core.cast_noted(payload),
+            self.core.cast(payload, &mut self.events),
             self.member.cast_noted(payload),
         ) {
-            (Ok((one, noted)), Ok((other, entry))) => noted == entry && is_same_cast(&one, &other),
-            (Err(one), Err(other)) => one == other,
+            (Ok((frame, noted)), Ok((done, entry))) => {
+                let is_event = match self.events.get(before..) {
+                    Some(added) => are_the_cast(added, &done, payload),
+                    None => false,
+                };
+                noted == entry && frame == done.out && is_event
+            }
+            (Err(one), Err(other)) => one == other && self.events.len() == before,
             _ => false,
         }
     }
 
     fn take(&mut self, bytes: &Bytes) -> bool {
-        let before = self.delivered.len();
+        let before = self.events.len();
         match (
-            self.core.receive_noted(bytes, &mut self.delivered),
+            self.core.receive_noted(bytes, &mut self.events),
             self.member.arrive_noted(bytes),
         ) {
             (Ok((one, noted)), Ok((other, entry))) => {
                 is_same_entry(&noted, &entry)
-                    && is_same_arrival(&one, &self.delivered[before..], &other)
+                    && is_same_arrival(&one, &self.events[before..], &other)
             }
-            (Err(one), Err(other)) => one == other && self.delivered.len() == before,
+            (Err(one), Err(other)) => one == other && self.events.len() == before,
             _ => false,
         }
     }
@@ -155,10 +162,6 @@ impl Both {
             _ => false,
         }
     }
-}
-
-fn is_same_cast(one: &CastDone, other: &CastDone) -> bool {
-    one.name == other.name && one.time.as_slice() == other.time.as_slice() && one.out == other.out
 }
 
 fn is_same_entry(one: &Option<Entry>, other: &Option<Entry>) -> bool {
@@ -243,30 +246,6 @@ fn a_core_is_below_the_size(rt: HostRuntime) {
 }
 
 #[test]
-fn a_core_without_room_refuses_what_would_add_an_entry(rt: HostRuntime) {
-    const ROWS: &[(&[u8], bool, Option<ArriveRefusal>)] = &[
-        (HI, false, Some(ArriveRefusal::HistoryFull)),
-        (TOLD, false, Some(ArriveRefusal::HistoryFull)),
-        (EARLY, false, Some(ArriveRefusal::TooFar)),
-        (OTHER, false, Some(ArriveRefusal::OtherGroup)),
-        (ASKED, false, None),
-        (HI, true, None),
-        (HI, false, None),
-        (TOLD, true, None),
-    ];
-    let mut both = Both::new(&rt, rt.alloc());
-    assert!(rt; both.core.cast(b"no").is_ok());
-    for (bytes, may_enter, refusal) in ROWS {
-        let bytes = Bytes::from_static(bytes);
-        let answer = both
-            .core
-            .receive_within(&bytes, *may_enter, &mut both.delivered);
-        assert_eq!(rt; answer.err(), *refusal);
-    }
-    assert_eq!(rt; both.delivered.len(), 1);
-}
-
-#[test]
 fn a_core_says_beforehand_whether_it_casts(rt: HostRuntime) {
     const ROWS: &[(&[u8], Option<CastRefusal>)] = &[
         (&[0; 1025], Some(CastRefusal::PayloadTooLong)),
@@ -278,32 +257,18 @@ fn a_core_says_beforehand_whether_it_casts(rt: HostRuntime) {
     let mut both = Both::new(&rt, rt.alloc());
     for (payload, refusal) in ROWS {
         assert_eq!(rt; both.core.may_cast(payload).err(), *refusal);
-        assert_eq!(rt; both.core.cast(payload).err(), *refusal);
+        let cast = both.core.cast(payload, &mut both.events);
+        assert_eq!(rt; cast.err(), *refusal);
     }
 }
 
-#[test]
-fn a_cast_joins_the_events_of_who_keeps_them(rt: HostRuntime) {
-    let mut both = Both::new(&rt, rt.alloc());
-    let (frame, entry) = both
-        .core
-        .cast_into(b"no", &mut both.delivered)
-        .expect(&rt, "a cast");
-    let (done, noted) = both.member.cast_noted(b"no").expect(&rt, "a cast");
-    assert!(rt; frame == done.out && entry == noted);
-    assert!(rt; are_the_cast(&both.delivered, &done));
-    let long = both.core.cast_into(&[0; 1025], &mut both.delivered);
-    assert_eq!(rt; long.err(), Some(CastRefusal::PayloadTooLong));
-    assert!(rt; are_the_cast(&both.delivered, &done));
-}
-
-/// The one event is that of the cast.
-fn are_the_cast(events: &[Event], done: &CastDone) -> bool {
+/// The one event is that of the cast of this payload.
+fn are_the_cast(events: &[Event], done: &CastDone, payload: &[u8]) -> bool {
     match events {
         [Event::Cast(message)] => {
             message.name == done.name
                 && message.time.as_slice() == done.time.as_slice()
-                && message.payload.as_slice() == b"no".as_slice()
+                && message.payload.as_slice() == payload
         }
         _ => false,
     }
@@ -317,7 +282,8 @@ fn a_core_has_news_until_it_tells_them(rt: HostRuntime) {
         let ticked = both.core.tick().expect(&rt, "a tick");
         assert_eq!(rt; ticked.entered, is_new);
     }
-    assert!(rt; both.core.cast(b"no").is_ok());
+    let cast = both.core.cast(b"no", &mut both.events);
+    assert!(rt; cast.is_ok());
     assert!(rt; both.core.has_news());
 }
 
@@ -344,7 +310,7 @@ fn a_core_casts_receives_and_ticks(rt: HostRuntime) {
 
 fn plain_calls(rt: &impl Abort, alloc: Global) -> Plain {
     let mut both = Both::new(rt, alloc);
-    let cast = both.core.cast(b"no").err();
+    let cast = both.core.cast(b"no", &mut both.events).err();
     let delivered = delivered(&mut both, HI);
     let told = match both.core.tick() {
         Ok(ticked) => Some(ticked.out.len()),
@@ -362,7 +328,7 @@ fn plain_calls(rt: &impl Abort, alloc: Global) -> Plain {
 
 fn delivered(both: &mut Both, bytes: &'static [u8]) -> Result<usize, ArriveRefusal> {
     let bytes = Bytes::from_static(bytes);
-    match both.core.receive(&bytes, &mut both.delivered)? {
+    match both.core.receive(&bytes, &mut both.events)? {
         Received::Accepted { delivered, .. } => Ok(delivered),
         Received::Repeat => Ok(0),
     }

@@ -14,6 +14,8 @@ mod cores;
 #[cfg(test)]
 mod examples;
 #[cfg(test)]
+mod helping;
+#[cfg(test)]
 mod members;
 #[cfg(test)]
 mod quick;

@@ -406,7 +406,7 @@ fn received_noted(
     member: &mut Member,
     bytes: &'static [u8],
 ) -> Result<(bool, usize), ArriveRefusal> {
-    let (out, noted) = member.receive_noted(Bytes::from_static(bytes))?;
+    let (out, noted) = member.receive_noted(&Bytes::from_static(bytes))?;
     let sent = (noted.is_some(), sent(rt, &out));
     drop(out);
     assert!(rt; is_last(noted, member));

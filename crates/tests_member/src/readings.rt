@@ -196,7 +196,11 @@ impl Both {
         match step {
             Step::Cast => {
                 drop(self.member.cast(b"ok").expect(rt, "a cast"));
-                drop(self.core.cast(b"ok").expect(rt, "a cast"));
+                drop(
+                    self.core
+                        .cast(b"ok", &mut Vec::new(alloc))
+                        .expect(rt, "a cast"),
+                );
             }
             Step::Take(frame) => self.take(rt, alloc, &Bytes::from_static(frame)),
         }

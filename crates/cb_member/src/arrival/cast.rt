@@ -1,4 +1,6 @@
 //! The arrival of a cast or a burst: what the rules say of it, and what is done with one that they let pass.
+//!
+//! A cast that comes in order and lets no other go is the common case. Its way is compiled into one function.
 
 ghost use Rattle.std.specs.Prelude.{◌≡◌, ◌+◌, ◌≤◌, ◌++◌, ◌∷◌, [], ℕ};
 ghost use Rattle.std.specs.Vec.{vec_capacity, vec_len};
@@ -62,6 +64,7 @@ impl State {
     }
 
     /// Takes the unit on its course, and keeps its frame. What is delivered joins the events, which have room for it; this takes no memory.
+    #[inline(always)]
     pub fn take_cast(&mut self, unit: Unit, frame: Bytes, course: Course, events: &mut Vec<Event>)
         requires can { CanGo (unit_fields unit) course self.old }
         requires frame { frame ≡ text_of (CastFrame (unit_fields unit)) }
@@ -81,6 +84,7 @@ impl State {
     }
 
     /// Keeps and delivers, and learns nothing of it yet.
+    #[inline(always)]
     pub fn go(&mut self, unit: Unit, course: Course, events: &mut Vec<Event>)
         requires can { CanGo (unit_fields unit) course self.old }
         requires room { vec_len events.old + most course ≤ vec_capacity events.old }
@@ -130,6 +134,7 @@ impl State {
     }
 
     /// It came in order, and alone is delivered. What its time says of other senders was heard of, since all that is delivered.
+    #[inline(always)]
     fn deliver_alone(&mut self, cast: Cast, time: VectorTime, events: &mut Vec<Event>)
         requires alone { GoesAlone (cast_fields cast) time self.old }
         requires room { vec_len events.old + 1 ≤ vec_capacity events.old }
@@ -146,6 +151,7 @@ impl State {
     }
 
     /// It came in order, and others may go with it.
+    #[inline(never)]
     fn lead_on(&mut self, cast: Cast, time: VectorTime, events: &mut Vec<Event>)
         requires can { HasTime (cast_fields cast) time self.old }
         requires room { HasRoomToDeliver (cast_fields cast) self.old events.old }
@@ -156,6 +162,7 @@ impl State {
     }
 
     /// Others may go with it.
+    #[inline(never)]
     fn let_go(&mut self, unit: Unit, spares: Spares, events: &mut Vec<Event>)
         requires can { CanTakeIn (unit_fields unit) (times_in spares) self.old }
         requires room { HasRoomToDeliver (unit_fields unit) self.old events.old }

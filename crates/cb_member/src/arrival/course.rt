@@ -29,9 +29,9 @@ pub enum Course {
     Waits { time: VectorTime },
     /// It comes in order, and is delivered alone.
     Alone { time: VectorTime },
-    /// It comes in order, and may let others go: at most so many are delivered.
+    /// It comes in order, and may let others go: at most this many messages are delivered.
     LeadsOn { time: VectorTime, most: usize },
-    /// It may let others go: at most so many are delivered.
+    /// It may let others go: at most this many messages are delivered.
     LetsGo { spares: Spares, most: usize },
 }
 
@@ -98,6 +98,7 @@ impl State {
             && changes_are_reached(cast, time.as_slice(), counts.as_slice())
     }
 
+    #[inline(never)]
     fn course_of_others(&mut self, unit: &Unit) -> Result<Course, NoMemory>
         requires { CanFollow (unit_fields unit.now) self.old }
         ensures same { IsAlike self.old self.new }
@@ -126,7 +127,7 @@ impl State {
         Ok(Course::LetsGo { spares, most })
     }
 
-    /// How many messages wait for the delay rule once so many more are expanded.
+    /// How many messages wait for the delay rule once this many more are expanded.
     fn most_with(&self, more: u32) -> Result<usize, NoMemory>
         ensures { IfOk result (λ most. most ≡ map.len self.now.delivery.queue.held + more) }
     {

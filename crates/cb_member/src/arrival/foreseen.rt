@@ -37,6 +37,7 @@ impl State {
         }
     }
 
+    #[inline(never)]
     fn foreseen(&mut self, unit: &Unit, course: &Course) -> Result<Vec<Message>, NoMemory>
         requires { CanGo (unit_fields unit.now) course.now self.old }
         ensures same { self.new ≡ self.old }
@@ -53,6 +54,7 @@ impl State {
 
     /// What a copy of the state delivers. Rarely is more than one message delivered, and then only is this paid. The copy has the
     /// relays for so long, which are not copied.
+    #[inline(never)]
     fn delivered_by_twin(&mut self, unit: &Unit, most: usize) -> Result<Vec<Message>, NoMemory>
         requires { CanLetGoAt (unit_fields unit.now) most self.old }
         ensures same { self.new ≡ self.old }

@@ -1,9 +1,9 @@
 //! How often a node ticks, by a clock that is set.
 
+use crate::bounds::Bounds;
 use crate::desk::for_all;
 use crate::fault::TurnFault;
 use crate::node::Node;
-use crate::pace::{BadBounds, Bounds};
 use crate::tests::fakes::{Broken, SetClock, Short, Silent, Timed};
 use cb_journal::{KeepFault, NoJournal};
 use cb_links::{ChannelInlet, ChannelLink, ChannelOutlet, Inlet, Outlet, Received, WaitingInlet};
@@ -60,39 +60,23 @@ fn ticks_in<I: WaitingInlet, R: Wait + Clock + Abort>(
     node.ticks().wrapping_sub(before)
 }
 
-#[test]
-fn bounds_that_are_none_are_refused(rt: HostRuntime) {
-    let millis = |ms: u64| Duration::from_millis(ms);
-    let table = [
-        (Duration::ZERO, millis(5), false),
-        (millis(1), millis(1), true),
-        (millis(6), millis(5), false),
-        (millis(1), millis(3_600_000), true),
-        (millis(1), millis(3_600_001), false),
-    ];
-    for (quick, slow, good) in table {
-        let made = Bounds::new(quick, slow);
-        assert!(&rt; made.is_ok() == good);
-        assert!(&rt; good || made == Err(BadBounds));
-    }
-}
-
-/// The first status is new, and then four ticks find all quiet at the quick pace: five ticks by 40
-/// milliseconds, and then one a second.
+/// The first status is new. The time to the next tick is 10 milliseconds, then twice the one before
+/// each time, up to a second: eight ticks by 1,270 milliseconds, and then one a second.
 #[test]
 fn a_quiet_node_ticks_slowly(rt: HostRuntime) {
     let mut node = alone(&rt, rt.alloc(), Silent);
     let ticks = ticks_in(&rt, &mut node, 10_500);
-    assert!(&rt; ticks == 15);
+    assert!(&rt; ticks == 17);
 }
 
-/// What it casts nobody acknowledges: it ticks at first, and then each 10 milliseconds.
+/// What it casts nobody acknowledges, and nothing comes: it ticks at first, and after 10, 30, 70, 150,
+/// 310 and 630 milliseconds.
 #[test]
-fn a_node_with_an_open_cast_ticks_quickly(rt: HostRuntime) {
+fn a_cast_that_nobody_acknowledges_is_no_news_for_ever(rt: HostRuntime) {
     let mut node = alone(&rt, rt.alloc(), Silent);
     let _named = node.cast(b"hi").expect(&rt, "a cast");
     let ticks = ticks_in(&rt, &mut node, 1_000);
-    assert!(&rt; ticks == 101);
+    assert!(&rt; ticks == 7);
 }
 
 #[test]

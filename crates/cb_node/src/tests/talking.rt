@@ -1,8 +1,8 @@
 //! The loop of a program round its node, as the guide shows it.
 
+use crate::bounds::Bounds;
 use crate::fault::TurnFault;
 use crate::node::Node;
-use crate::pace::Bounds;
 use crate::tests::fakes::{SetClock, Silent, Timed};
 use cb_journal::NoJournal;
 use cb_links::{ChannelLink, ChannelOutlet};

@@ -1,8 +1,8 @@
 //! Three nodes over channels, by turns.
 
+use crate::bounds::Bounds;
 use crate::fault::TurnFault;
 use crate::node::Node;
-use crate::pace::Bounds;
 use crate::tests::fakes::{Lossy, SetClock, Timed};
 use cb_journal::NoJournal;
 use cb_links::{ChannelInlet, ChannelLink, ChannelOutlet};
@@ -90,6 +90,39 @@ fn what_is_lost_comes_again(rt: HostRuntime) {
     let shown = rounds(&rt, &mut nodes, 400, 20);
     assert!(&rt; all_have(&nodes, 20));
     assert!(&rt; shown == 180);
+}
+
+/// Member 2 is gone, and never acknowledges what the others cast. Their statuses are soon no news to
+/// each other: in the fourth and the fifth second each ticks twice.
+#[test]
+fn beside_a_dead_member_the_others_tick_slowly(rt: HostRuntime) {
+    let mut nodes = three(&rt, rt.alloc(), 0, 1_000);
+    let _dead = nodes.pop();
+    let clock = SetClock::new();
+    let timed = Timed {
+        rt: &rt,
+        clock: &clock,
+    };
+    let mut by_then = 0u64;
+    for round in 0..100u32 {
+        if round == 60 {
+            by_then = ticks_of(&nodes);
+        }
+        for node in nodes.as_mut_slice() {
+            let _shown = one_turn(&timed, node, 4);
+        }
+        clock.pass(Duration::from_millis(50));
+    }
+    assert!(&rt; ticks_of(&nodes).wrapping_sub(by_then) == 4);
+}
+
+/// How many ticks they made together.
+fn ticks_of(nodes: &[LossyNode]) -> u64 {
+    let mut sum = 0u64;
+    for node in nodes {
+        sum = sum.wrapping_add(node.ticks());
+    }
+    sum
 }
 
 #[test]

@@ -7,9 +7,9 @@ use crate::code::{
 };
 use crate::{
     jolunza_cast, jolunza_cast_burst, jolunza_close, jolunza_count, jolunza_entry, jolunza_event,
-    jolunza_events, jolunza_frame, jolunza_frames, jolunza_help, jolunza_load, jolunza_missing,
-    jolunza_open, jolunza_receive, jolunza_receive_loaded, jolunza_stable, jolunza_stable_of,
-    jolunza_tick, jolunza_time,
+    jolunza_events, jolunza_frame, jolunza_frames, jolunza_help, jolunza_help_among, jolunza_load,
+    jolunza_missing, jolunza_open, jolunza_receive, jolunza_receive_loaded, jolunza_stable,
+    jolunza_stable_of, jolunza_tick, jolunza_time,
 };
 use cb_handle::{Counts, EntryHead, EventHead, FrameHead, Handle, Name, Range, Received, closed};
 use std::alloc::Global;
@@ -69,6 +69,7 @@ fn a_closed_handle_answers_so(rt: HostRuntime) {
     assert_eq!(rt; received.delivered, 5);
     assert_eq!(rt; jolunza_tick(alloc, &mut handle), CLOSED);
     assert_eq!(rt; jolunza_help(alloc, &mut handle, 1), CLOSED);
+    assert_eq!(rt; jolunza_help_among(alloc, &mut handle, 1, &[0]), CLOSED);
     reads(&rt, alloc, &mut handle, CLOSED, CLOSED);
     jolunza_close(alloc, &mut handle);
 }

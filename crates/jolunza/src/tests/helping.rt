@@ -3,8 +3,8 @@
 use super::{FIRST, cast, counts, is_sent, member_of_three, member_with_limit, receive};
 use crate::code::{BAD_MEMBER, DONE};
 use crate::{
-    jolunza_close, jolunza_frames, jolunza_help, jolunza_load, jolunza_receive_loaded,
-    jolunza_receive_parts,
+    jolunza_close, jolunza_frames, jolunza_help, jolunza_help_among, jolunza_load,
+    jolunza_receive_loaded, jolunza_receive_parts,
 };
 use cb_handle::{FrameHead, Handle, Received};
 use std::alloc::Global;
@@ -42,6 +42,28 @@ fn who_is_known_to_have_it_is_asked_for_what_is_missing(rt: HostRuntime) {
         assert_eq!(rt; counts(&rt, alloc, &mut handle), (0, events, entries));
         jolunza_close(alloc, &mut handle);
     }
+}
+
+/// Of the members given the first that is known to have the casts is asked. Who is none of the group is a bad member.
+#[test]
+fn the_first_of_the_members_given_is_asked(rt: HostRuntime) {
+    let alloc = rt.alloc();
+    let mut handle = member_of_three(&rt, alloc, 2);
+    assert!(rt; receive(&rt, alloc, &mut handle, STATUS).is_entered);
+    for (members, frames) in [(&[1][..], 1), (&[2, 0, 1], 1), (&[0], 0), (&[], 0)] {
+        assert_eq!(rt; jolunza_help_among(alloc, &mut handle, 0, members), DONE);
+        assert_eq!(rt; counts(&rt, alloc, &mut handle).0, frames);
+    }
+    assert_eq!(rt; jolunza_help_among(alloc, &mut handle, 0, &[0, 1]), DONE);
+    is_sent(&rt, alloc, &mut handle, Some(1), HELP);
+    for (member, members) in [(2, &[1][..]), (3, &[1]), (0, &[1, 3])] {
+        assert_eq!(rt;
+            jolunza_help_among(alloc, &mut handle, member, members),
+            BAD_MEMBER
+        );
+    }
+    is_sent(&rt, alloc, &mut handle, Some(1), HELP);
+    jolunza_close(alloc, &mut handle);
 }
 
 /// Member 2 has the second cast of member 0 and lacks the first, and nobody has told that it has that one.

@@ -7,7 +7,7 @@ use crate::examples::calls::{
 use bytes::Bytes;
 use cb_history::{
     Arrival, ArriveRefusal, BurstDone, BurstRefusal, CastDone, CastRefusal, Entry, Event, Group,
-    Message, Name, TickRefusal, Ticked,
+    Message, TickRefusal, Ticked,
 };
 use cb_member::{CoreMember, Received};
 use std::alloc::Global;
@@ -25,8 +25,16 @@ pub fn core_of(alloc: Global, group: Group, me: u32) -> Result<CoreMember, Fail>
 /// What a core answers.
 pub fn answer(alloc: Global, core: &mut CoreMember, call: Call<'_>) -> Result<String, Fail> {
     match call {
-        Call::Cast(payload) => cast_text(alloc, &core.cast(payload)),
-        Call::Burst(payloads) => burst_text(alloc, &core.cast_burst(payloads)),
+        Call::Cast(payload) => {
+            let mut events = Vec::new(alloc);
+            let cast = core.cast(payload, &mut events);
+            cast_text(alloc, &told_of_cast(cast, &events)?.0)
+        }
+        Call::Burst(payloads) => {
+            let mut events = Vec::new(alloc);
+            let burst = core.cast_burst(payloads, &mut events);
+            burst_text(alloc, &told_of_burst(burst, &events)?.0)
+        }
         Call::Take(bytes) => taken_text(alloc, core, bytes),
         Call::Tick => tick_text(alloc, &core.tick()),
         _ => reading(alloc, core, call),
@@ -103,56 +111,30 @@ impl Noting {
 
     fn changing(&mut self, alloc: Global, call: Call<'_>) -> Result<String, Fail> {
         match call {
-            Call::Cast(payload) => cast_text(alloc, &self.cast(alloc, payload)?),
-            Call::Burst(payloads) => burst_text(alloc, &self.cast_burst(alloc, payloads)?),
+            Call::Cast(payload) => cast_text(alloc, &self.cast(payload)?),
+            Call::Burst(payloads) => burst_text(alloc, &self.cast_burst(payloads)?),
             Call::Take(bytes) => self.taken_text(alloc, bytes),
             Call::Tick => tick_text(alloc, &self.tick()?),
             _ => Err(Fail::new("a call that reads")),
         }
     }
 
-    fn cast(
-        &mut self,
-        alloc: Global,
-        payload: &[u8],
-    ) -> Result<Result<CastDone, CastRefusal>, Fail> {
-        match self.core.cast_noted(payload) {
-            Ok((done, entry)) => {
-                self.entries.push(entry)?;
-                self.events.push(cast_event(alloc, &done, payload)?)?;
-                Ok(Ok(done))
-            }
-            Err(refusal) => Ok(Err(refusal)),
-        }
+    fn cast(&mut self, payload: &[u8]) -> Result<Result<CastDone, CastRefusal>, Fail> {
+        let before = self.events.len();
+        let cast = self.core.cast(payload, &mut self.events);
+        let added = self.events.get(before..).ok_or("the events so far")?;
+        let (told, entry) = told_of_cast(cast, added)?;
+        self.keep_entry(entry)?;
+        Ok(told)
     }
 
-    fn cast_burst(
-        &mut self,
-        alloc: Global,
-        payloads: &[&[u8]],
-    ) -> Result<Result<BurstDone, BurstRefusal>, Fail> {
-        match self.core.cast_burst_noted(payloads) {
-            Ok((done, entry)) => {
-                self.entries.push(entry)?;
-                self.keep_burst(alloc, &done, payloads)?;
-                Ok(Ok(done))
-            }
-            Err(refusal) => Ok(Err(refusal)),
-        }
-    }
-
-    /// An event for each message, of which each further one has one more in the own field of its time.
-    fn keep_burst(
-        &mut self,
-        alloc: Global,
-        done: &BurstDone,
-        payloads: &[&[u8]],
-    ) -> Result<(), Fail> {
-        for (number, payload) in (done.first.number..).zip(payloads) {
-            self.events
-                .push(burst_event(alloc, done, number, payload)?)?;
-        }
-        Ok(())
+    fn cast_burst(&mut self, payloads: &[&[u8]]) -> Result<Result<BurstDone, BurstRefusal>, Fail> {
+        let before = self.events.len();
+        let burst = self.core.cast_burst(payloads, &mut self.events);
+        let added = self.events.get(before..).ok_or("the events so far")?;
+        let (told, entry) = told_of_burst(burst, added)?;
+        self.keep_entry(entry)?;
+        Ok(told)
     }
 
     fn taken_text(&mut self, alloc: Global, bytes: &[u8]) -> Result<String, Fail> {
@@ -217,30 +199,44 @@ impl Noting {
     }
 }
 
-fn cast_event(alloc: Global, done: &CastDone, payload: &[u8]) -> Result<Event, Fail> {
-    Ok(Event::Cast(Message {
-        name: done.name,
-        time: done.time.copy()?,
-        payload: Bytes::copy_from_slice(alloc, payload)?,
-    }))
+/// The answer of a member with a history to the cast that has this event, and the cast's entry.
+fn told_of_cast(
+    cast: Result<(Bytes, Entry), CastRefusal>,
+    events: &[Event],
+) -> Result<(Result<CastDone, CastRefusal>, Option<Entry>), Fail> {
+    let (out, entry) = match cast {
+        Ok(cast) => cast,
+        Err(refusal) => return Ok((Err(refusal), None)),
+    };
+    let first = events.first().ok_or("an event")?.message();
+    let told = CastDone {
+        name: first.name,
+        time: first.time.copy()?,
+        out,
+    };
+    Ok((Ok(told), Some(entry)))
 }
 
-fn burst_event(
-    alloc: Global,
-    done: &BurstDone,
-    number: u32,
-    payload: &[u8],
-) -> Result<Event, Fail> {
-    let sender = done.first.sender;
-    let mut time = done.time.copy()?;
-    if sender < time.size() {
-        time.set(sender, number);
-    }
-    Ok(Event::Cast(Message {
-        name: Name { sender, number },
-        time,
-        payload: Bytes::copy_from_slice(alloc, payload)?,
-    }))
+/// The answer of a member with a history to the burst that has these events, and the burst's entry.
+fn told_of_burst(
+    burst: Result<(Bytes, Entry), BurstRefusal>,
+    events: &[Event],
+) -> Result<(Result<BurstDone, BurstRefusal>, Option<Entry>), Fail> {
+    let (out, entry) = match burst {
+        Ok(burst) => burst,
+        Err(refusal) => return Ok((Err(refusal), None)),
+    };
+    let first = events.first().ok_or("an event")?.message();
+    let Ok(count) = u32::try_from(events.len()) else {
+        return Err(Fail::new("as many events as a burst has messages"));
+    };
+    let told = BurstDone {
+        first: first.name,
+        count,
+        time: first.time.copy()?,
+        out,
+    };
+    Ok((Ok(told), Some(entry)))
 }
 
 /// Each call has the answer that stands beside it.

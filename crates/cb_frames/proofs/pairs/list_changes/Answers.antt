@@ -1,18 +1,23 @@
-use Rattle.std.proofs.Common.{◌+◌, arith, rules}
+use Rattle.std.proofs.Common.{◌+◌, ◌*◌, length, arith}
+use Rattle.std.proofs.lemmas.Slice.{between_to_end}
 use Rattle.std.proofs.lemmas.Result.{err_from_is_err_and}
 use Rattle.cb_frames.specs.Parts.{pairs_but}
-use Rattle.cb_frames.proofs.PairLoop.{starts, reads_one, ends, is_done}
+use Rattle.cb_frames.proofs.PairLoop.{reads_one, ends, is_done}
 use Rattle.cb_frames.proofs.SaidPairs.{change_said, change_behind}
 use Rattle.cb_frames.proofs.pairs.list_changes.Goals as goal
 
 pub loop-init : goal.loop-init
-loop-init c = record {
-  few = search rules;
-  turns = search rules;
-  below = omega arith;
-  room = c.requires.room;
-  read = rw c.requires.empty (starts (pairs_but c.args.own) c.args.count 0 c.args.bytes.now);
-}
+loop-init c =
+    let s = c.list_short_changes-least.ensures in
+    let bytes = c.args.bytes.now in
+    let rest = between_to_end bytes (2 * c.len-read.result) (length bytes) (omega arith) in
+    record {
+      few = s.least.0;
+      turns = omega (arith, c.len-read.ensures);
+      below = s.least.1;
+      room = rw s.capacity c.requires.room;
+      read = rw (rest, c.len-read.ensures) (record { so_far = s.read });
+    }
 
 pub loop-preserved : goal.loop-preserved
 loop-preserved c =

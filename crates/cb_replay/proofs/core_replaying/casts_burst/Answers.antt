@@ -9,5 +9,5 @@ pub returns-in-Ok : goal.returns-in-Ok
 returns-in-Ok c =
     let load = many_of c.args.payloads.now in
     let made = c.in-Ok.ensures in
-    says_added (ToCast load) c.args.core.now c.cast_burst_into.new.self c.args.events.now.items c.cast_burst_into.new.events.items (entry_fields c.args.entry.now) (Some (entry_fields c.in-Ok.noted)) c.is_noted.result
-    made.goes_on made.entry c.is_noted.ensures (cast_joins load c.args.core.now c.cast_burst_into.new.self c.args.events.now.items c.cast_burst_into.new.events.items made.goes_on made.answer made.joins)
+    says_added (ToCast load) c.args.core.now c.cast_burst.new.self c.args.events.now.items c.cast_burst.new.events.items (entry_fields c.args.entry.now) (Some (entry_fields c.in-Ok.noted)) c.is_noted.result
+    made.goes_on made.entry c.is_noted.ensures (cast_joins load c.args.core.now c.cast_burst.new.self c.args.events.now.items c.cast_burst.new.events.items made.goes_on made.answer made.joins)

@@ -1,11 +1,7 @@
-use Rattle.cb_member.specs.Recorder.{facts_held}
-use Rattle.cb_member.proofs.Entering.{facts_kept, state_kept}
+use Rattle.std.proofs.Common.{◌≡◌}
+use Rattle.cb_member.specs.Readings.{delivered_of_in}
+use Rattle.cb_member.proofs.Members.{of_member}
 use Rattle.cb_member.proofs.member.Member.delivered_of.Goals as goal
 
-pub delivered_of-requires : goal.delivered_of-requires
-delivered_of-requires c = state_kept c.self.inside.recorder c.self.invariant
-
 pub returns : goal.returns
-returns c =
-    let r = c.self.inside.recorder in
-    rw (← c.self.view_is) (c.delivered_of.ensures (facts_held r) (facts_kept r c.self.invariant) c.self.invariant.keeps)
+returns c = rw (← c.self.view_is) (of_member c.self.inside.kept c.self.invariant (λ m. c.delivered_of.result ≡ delivered_of_in m c.args.k) c.delivered_of.ensures)

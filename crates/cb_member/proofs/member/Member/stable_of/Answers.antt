@@ -1,11 +1,7 @@
-use Rattle.cb_member.specs.Recorder.{facts_held}
-use Rattle.cb_member.proofs.Entering.{facts_kept, state_kept}
+use Rattle.std.proofs.Common.{◌≡◌}
+use Rattle.cb_history.specs.State.{stable_of_in}
+use Rattle.cb_member.proofs.Members.{of_member}
 use Rattle.cb_member.proofs.member.Member.stable_of.Goals as goal
 
-pub stable_of-requires : goal.stable_of-requires
-stable_of-requires c = state_kept c.self.inside.recorder c.self.invariant
-
 pub returns : goal.returns
-returns c =
-    let r = c.self.inside.recorder in
-    rw (← c.self.view_is) (c.stable_of.ensures (facts_held r) (facts_kept r c.self.invariant) c.self.invariant.keeps)
+returns c = rw (← c.self.view_is) (of_member c.self.inside.kept c.self.invariant (λ m. c.stable_of.result ≡ stable_of_in m c.args.i) c.stable_of.ensures)

@@ -18,17 +18,17 @@ keep_cast-requires c =
 
 pub returns : goal.returns
 returns c load can =
-    let so : KeepsSo load c.args.self.now c.keep_cast.new.self c.args.casting c.in_ok-another.field-0 c.last_time.result.now c.count-count.result = record {
+    let so : KeepsSo load c.args.self.now c.keep_cast.new.self c.args.casting c.in_ok-entry.entry c.last_time.result.now c.count-count.result = record {
       can = can;
-      copied = c.in_ok-another.ensures;
+      copied = c.in_ok-entry.ensures;
       at = last_of c.args.casting.first _ _ c.last_time.result.now c.deref.ensures.value c.last_time.ensures;
       many = c.count-count.ensures;
       keeps = c.keep_cast.ensures;
     } in
     let joined = c.push_casts.ensures ∙ ap (λ (es : List Event). es ++ map (λ m. Cast m) (messages_made c.args.casting)) c.in_ok-make_room.ensures.items in
     record {
-      core = kept_is_core load c.args.self.now _ c.args.casting c.in_ok-another.field-0 c.last_time.result.now c.count-count.result so;
-      casts = joins_so load c.args.self.now _ c.args.casting c.in_ok-another.field-0 c.last_time.result.now c.count-count.result so c.args.events.now.items _ joined;
+      core = kept_is_core load c.args.self.now _ c.args.casting c.in_ok-entry.entry c.last_time.result.now c.count-count.result so;
+      casts = joins_so load c.args.self.now _ c.args.casting c.in_ok-entry.entry c.last_time.result.now c.count-count.result so c.args.wanted c.args.events.now.items _ c.in_ok-time.time c.in_ok-noted.noted joined c.in_ok-time.ensures c.in_ok-noted.ensures;
       same = tt;
       same_events = tt;
     }

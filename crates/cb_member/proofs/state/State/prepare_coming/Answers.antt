@@ -1,36 +1,28 @@
-use Rattle.std.proofs.Common.{◌≡◌, ℕ, true, Some, sym, subst, rules, tests}
+use Rattle.std.proofs.Common.{sym, subst}
 use Rattle.cb_frames.specs.Fields.{unit_fields}
-use Rattle.cb_member.specs.declared.recorder.arriving.Named.{Named}
-use Rattle.cb_member.specs.CoreMember.{IsCore}
-use Rattle.cb_member.specs.Received.{HasRoomForNames, HasRoomForWanted}
-use Rattle.cb_member.proofs.Accepting.{is_new_alike, no_named, same_named}
+use Rattle.cb_member.specs.declared.state.State.{State}
+use Rattle.cb_member.specs.Arriving.{IsNew}
+use Rattle.cb_member.specs.CoreMember.{IsCore, core_of}
+use Rattle.cb_member.specs.Course.{CanGo}
+use Rattle.cb_member.specs.Foreseen.{AreCopies}
+use Rattle.cb_member.proofs.Accepting.{is_new_alike}
 use Rattle.cb_member.proofs.Cores.{same_core}
 use Rattle.cb_member.proofs.state.State.prepare_coming.Goals as goal
-use Rattle.cb_member.proofs.state.State.prepare_coming.Goals.{then-noted+in_ok-with_room, else-noted}
 
 pub returns-clause-can : goal.returns-clause-can
 returns-clause-can c =
     let old = c.args.self.now in
-    let new = c.course_of.new.self in
+    let mid = c.course_of.new.self in
+    let new = c.foreseen_if.new.self in
     let same = c.in_ok-course.ensures.same in
-    let most_is = c.most-most.ensures in
-    let noted : c.args.noted ≡ true → (named : Named) × (c.if-noted.noted ≡ Some named) =
-    elim c.if-noted.branch [
-      | then-noted+in_ok-with_room w ↦ λ want. (_, w.noted-is)
-      | else-noted w ↦ λ want. absurd (search (rules, tests))
-    ] in
-    let fits : HasRoomForWanted c.args.bytes.now c.most-most.result c.if-noted.noted =
-    elim c.if-noted.branch [
-      | then-noted+in_ok-with_room w ↦ λ named is. subst (λ (n : Named). HasRoomForNames c.args.bytes.now c.most-most.result n) (same_named _ _ _ w.noted-is is) w.in_ok-with_room.ensures
-      | else-noted w ↦ λ named is. absurd (no_named _ _ w.noted-is is)
-    ] in
+    let still = c.in_ok-deliveries.ensures.same in
+    let cast = unit_fields c.args.unit in
     record {
-      core_is = subst IsCore (sym (same_core old new same)) c.requires.core;
+      core_is = subst (λ (s : State). IsCore (core_of s)) (sym still) (subst IsCore (sym (same_core old mid same)) c.requires.core);
       bytes_are = c.requires.bytes;
       read = c.requires.read;
       frame = c.in_ok-another.ensures;
-      new = is_new_alike (unit_fields c.args.unit) old new same c.requires.new;
-      can_go = c.in_ok-course.ensures.course;
-      noted = noted;
-      noted_fits = subst (λ (n : ℕ). HasRoomForWanted c.args.bytes.now n c.if-noted.noted) most_is fits;
+      new = subst (IsNew cast) (sym still) (is_new_alike cast old mid same c.requires.new);
+      can_go = subst (CanGo cast c.in_ok-course.course) (sym still) c.in_ok-course.ensures.course;
+      copies = λ want. subst (λ (s : State). AreCopies cast c.in_ok-course.course s c.in_ok-deliveries.deliveries.items) (sym still) (c.in_ok-deliveries.ensures.copies want);
     }

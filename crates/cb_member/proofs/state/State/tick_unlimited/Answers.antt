@@ -26,4 +26,4 @@ returns c =
       | then-entered w ↦ subst (λ (s : State). GoesOn ToTick (core_of old) (core_of s)) (sym w.self-is) (goes_on_reported old is_new bytes out entry tells w.report.new.self w.if-entered.true w.report.ensures)
       | else-entered w ↦ subst (λ (s : State). GoesOn ToTick (core_of old) (core_of s)) (sym w.self-is) (goes_on_silent old is_new bytes out entry tells w.if-entered.false)
     ] in
-    ticks_so old is_new bytes out entry tells c.if-entered.self _ refl refl goes
+    ticks_so old is_new bytes out entry tells c.args.wanted c.if-entered.self _ refl refl c.in_ok-noted.ensures goes

@@ -40,5 +40,5 @@ returns-in-Err-NoMemory-clause-keeps g c = keep_still g.K.Keeper.has _ _ _ (same
 
 pub returns-in-Ok-enter-clause-ticked : goal.returns-in-Ok-enter-clause-ticked
 returns-in-Ok-enter-clause-ticked g c =
-    ticks_in (state_in c.args.self.now) (state_in c.enter.new.self) c.args.self.now.member c.tick_noted.new.self c.in-Ok.ticked _ (c.requires.whole c.in_default.is) c.in-Ok-enter.ensures.kept (search rules)
-    (c.in-Ok-enter.ensures.posted ∙ ap (λ xs. frames_in xs ++ c.in-Ok.ticked.out.items) c.make_room.ensures.items) c.in-Ok-enter.ensures.refused (search rules)
+    ticks_in (state_in c.args.self.now) (state_in c.enter.new.self) c.args.self.now.member c.tick_noted.new.self c.in-Ok.ticked (c.requires.whole c.in_default.is) c.in-Ok-enter.ensures.kept (search rules)
+    (c.in-Ok-enter.ensures.posted ∙ ap (λ xs. frames_in xs ++ c.in-Ok.ticked.out.items) c.make_room.ensures.items) c.in-Ok-enter.ensures.refused

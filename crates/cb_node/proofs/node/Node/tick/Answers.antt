@@ -1,7 +1,7 @@
-use Rattle.std.proofs.Common.{ap, ◌∙◌}
-use Rattle.cb_node.specs.declared.pace.Pacing.{Pacing}
+use Rattle.std.proofs.Common.{sym, ap, ◌∙◌}
 use Rattle.cb_node.specs.Kept.{KeptState}
-use Rattle.cb_node.proofs.Asking.{not_both, ticks_alone, ticks_and_asks}
+use Rattle.cb_node.specs.Pacing.{with_tick}
+use Rattle.cb_node.proofs.Asking.{ticks_alone, ticks_and_asks}
 use Rattle.cb_node.proofs.Courses.{and_then}
 use Rattle.cb_node.proofs.Turns.{by_course}
 use Rattle.cb_node.proofs.node.Node.tick.Goals as goal
@@ -20,14 +20,12 @@ returns-in_ok-help-clause-refused g c = ap (λ (s : KeptState). s.refused) c.hel
 
 pub returns-in_ok-help-clause-ticked : goal.returns-in_ok-help-clause-ticked
 returns-in_ok-help-clause-ticked g c =
-    ticks_and_asks c.args.self.now.kept c.tick.new.self c.help.new.self c.in_ok-asks.asks c.count.new.self.ticks c.in_ok-asks.ensures.ticked (c.count.ensures.fourth.0 c.if-count.true) c.help.ensures.same c.in_ok-help.ensures.asked
+    ticks_and_asks c.args.self.now.kept c.tick.new.self c.help.new.self _ _ c.in_ok-tick.ensures.ticked c.count.ensures.helps c.if-count.true c.help.ensures.same c.in_ok-help.ensures.asked
 
 pub returns-else-count-clause-ticked : goal.returns-else-count-clause-ticked
 returns-else-count-clause-ticked g c =
-    ticks_alone c.args.self.now.kept c.tick.new.self c.in_ok-asks.asks c.count.new.self.ticks c.in_ok-asks.ensures.ticked (λ fourth. not_both _ c.if-count.false (c.count.ensures.fourth.1 fourth))
+    ticks_alone c.args.self.now.kept c.tick.new.self _ _ c.in_ok-tick.ensures.ticked c.count.ensures.helps c.if-count.false
 
 pub returns-in_ok-help-clause-counted : goal.returns-in_ok-help-clause-counted
-returns-in_ok-help-clause-counted g c = ap (λ (p : Pacing). p.ticks) c.count.ensures.counted
-
-pub returns-else-count-clause-counted : goal.returns-else-count-clause-counted
-returns-else-count-clause-counted g c = ap (λ (p : Pacing). p.ticks) c.count.ensures.counted
+returns-in_ok-help-clause-counted g c =
+    c.count.ensures.counted ∙ ap (with_tick c.args.self.now.pacing) (c.written.ensures ∙ ap (λ (s : KeptState). s.written) (sym c.help.ensures.same))

@@ -1,0 +1,4 @@
+use Rattle.cb_member.proofs.core_member.CoreMember.tick_wanting.Goals as goal
+
+pub returns : goal.returns
+returns c = rw (← c.self.view_is) c.tick_unlimited.ensures

@@ -1,0 +1,7 @@
+use Rattle.std.proofs.Common.{◌≡◌}
+use Rattle.cb_history.specs.State.{time_in}
+use Rattle.cb_member.proofs.Members.{of_member}
+use Rattle.cb_member.proofs.member.Member.time.Goals as goal
+
+pub returns : goal.returns
+returns c = rw (← c.self.view_is) (of_member c.self.inside.kept c.self.invariant (λ m. c.time.result.now ≡ time_in m) c.time.ensures)
