@@ -1,11 +1,12 @@
 -- What a copy of a state delivers is what the state itself delivers.
-use Rattle.std.proofs.Common.{◌≡◌, ℕ, List, [], ◌∷◌, ◌++◌, length, map, Result, Ok, Err, refl, sym, ap, subst, ◌∙◌}
+use Rattle.std.proofs.Common.{◌≡◌, ℕ, ◌+◌, ◌<◌, ◌≤◌, List, [], ◌∷◌, ◌++◌, length, drop, get_or, map, Result, Ok, Err, refl, sym, ap, subst, ◌∙◌, append_assoc}
 use Rattle.std.specs.Prelude.{IfOk}
 use Rattle.std.specs.declared.vec.Vec.{Vec}
 use Rattle.std.specs.declared.alloc.Global.{Global}
+use Rattle.std.proofs.lemmas.List.{append-nil, drop_all}
 use Rattle.cb_frames.specs.Fields.{CastFields, CastFrame}
 use Rattle.cb_delay.specs.declared.message.Event.{Event}
-use Rattle.cb_delay.specs.declared.message.Event.TheVariants.{Deliver}
+use Rattle.cb_delay.specs.declared.message.Event.TheVariants.{Cast, Deliver}
 use Rattle.cb_delay.specs.declared.message.Message.{Message}
 use Rattle.cb_stability.specs.Relays.{Relayed}
 use Rattle.cb_history.specs.Answers.{deliveries}
@@ -23,6 +24,7 @@ use Rattle.cb_member.specs.State.{IsAlike, IsAlikeButRelays}
 use Rattle.cb_member.specs.Taking.{CanTakeIn}
 use Rattle.cb_member.proofs.Alike.{alike_again, can_follow_alike, holds_alike, keeps_alike, legal_alike, with_room}
 use Rattle.cb_member.proofs.Arriving.{events_join, is_delivered}
+use Rattle.cb_member.proofs.Bursting.{one_and_rest}
 
 -- with more room and the relays of the old one, what knows the same is alike
 pub has_relays : (old twin : State) (r : Reception) (relays : Vec Relayed Global) → IsAlikeButRelays old twin → reception.IsAlike twin.reception r → relays ≡ old.relays
@@ -57,3 +59,21 @@ are_its_deliveries c old twin new before after messages same delivers none is fa
 pub foretold : {E : Type 0} (P Q : List Message → Type 0) (r : Result (Vec Message Global) E) → ((messages : List Message) → P messages → Q messages) → IfOk r (λ copies. P copies.items) → IfOk r (λ copies. Q copies.items)
 foretold P Q (Ok copies) so is = so copies.items is
 foretold P Q (Err e) so is = tt
+
+-- ---- copies of what is delivered, one after another
+
+first_and_rest : (event : Event) (events : List Event) → delivered_by (event ∷ events) ≡ delivered_by (event ∷ []) ++ delivered_by events
+first_and_rest (Deliver m) events = refl
+first_and_rest (Cast m) events = refl
+
+pub one_copy_more : (events : List Event) (i : ℕ) (event : Event) (copies more : List Message) → i < length events → event ≡ get_or events i event → more ≡ copies ++ delivered_by (event ∷ [])
+    → copies ++ delivered_by (drop i events) ≡ delivered_by events → more ++ delivered_by (drop (i + 1) events) ≡ delivered_by events
+one_copy_more events i event copies more lt is pushed so_far =
+    ap (λ (ms : List Message). ms ++ delivered_by (drop (i + 1) events)) pushed
+    ∙ append_assoc copies (delivered_by (event ∷ [])) (delivered_by (drop (i + 1) events))
+    ∙ ap (λ (ms : List Message). copies ++ ms) (sym (first_and_rest event (drop (i + 1) events)))
+    ∙ ap (λ (es : List Event). copies ++ delivered_by es) (sym (one_and_rest events i event lt is))
+    ∙ so_far
+
+pub all_copies : (events : List Event) (i : ℕ) (copies : List Message) → length events ≤ i → copies ++ delivered_by (drop i events) ≡ delivered_by events → copies ≡ delivered_by events
+all_copies events i copies past so_far = sym (append-nil copies) ∙ sym (ap (λ (es : List Event). copies ++ delivered_by es) (drop_all i events past)) ∙ so_far

@@ -1,6 +1,6 @@
 //! Copies of what a cast or a burst will deliver, for a caller who wants messages of its own.
 
-ghost use Rattle.std.specs.Prelude.{◌≡◌, ◌∷◌, [], true, IfOk};
+ghost use Rattle.std.specs.Prelude.{◌≡◌, ◌++◌, ◌∷◌, [], true, IfOk, OnOk};
 ghost use Rattle.cb_frames.specs.Fields.{unit_fields};
 ghost use Rattle.cb_history.specs.Singles.{IsSingle};
 ghost use Rattle.cb_member.specs.Course.{CanGo, CanLetGoAt};
@@ -47,6 +47,7 @@ impl State {
         match course {
             Course::Early { .. } | Course::Waits { .. } => Ok(Vec::new(self.alloc)),
             Course::Alone { time } => alone(self.alloc, unit, time),
+            Course::AllAlone { deliveries, .. } => copies_of(self.alloc, deliveries),
             Course::LeadsOn { most, .. } => self.delivered_by_twin(unit, *most),
             Course::LetsGo { most, .. } => self.delivered_by_twin(unit, *most),
         }
@@ -94,6 +95,28 @@ fn alone(alloc: Global, unit: &Unit, time: &VectorTime) -> Result<Vec<Message>, 
     let mut copies = Vec::with_capacity(alloc, 1)?;
     copies.push(message)?;
     Ok(copies)
+}
+
+/// Copies of the messages that are delivered by these events.
+fn copies_of(alloc: Global, events: &[Event]) -> Result<Vec<Message>, NoMemory>
+    ensures { IfOk result (λ copies. copies.items ≡ delivered_by events.now) }
+{
+    let mut copies = Vec::with_capacity(alloc, events.len())?;
+    for event in events {
+        join_copy(&mut copies, event)?;
+    }
+    Ok(copies)
+}
+
+/// A copy of what the event delivers joins the copies.
+fn join_copy(copies: &mut Vec<Message>, event: &Event) -> Result<(), NoMemory>
+    ensures { OnOk result (copies.new.items
+        ≡ copies.old.items ++ delivered_by (event.now ∷ [])) }
+{
+    if let Event::Deliver(message) = event {
+        copies.push(message.copy()?)?;
+    }
+    Ok(())
 }
 
 /// The messages that are delivered by these events.
