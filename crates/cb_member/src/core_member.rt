@@ -385,8 +385,8 @@ impl CoreMember {
         Ok((taken.received(), entries.pop()))
     }
 
-    /// Takes received bytes as `receive` does, with what is asked for. Where no entry may be added, bytes of which a history would have one
-    /// are refused as `HistoryFull`, in its place in the order of `ArriveRefusal`.
+    /// Takes received bytes as `receive` does, and makes the copies that the caller asks for. If no entry may be added, the call refuses
+    /// bytes that would add one as `HistoryFull`, in its place in the order of `ArriveRefusal`.
     pub(crate) fn receive_wanting(
         &mut self,
         bytes: &Bytes,

@@ -299,7 +299,7 @@ impl Kept {
         entries
     }
 
-    /// Where its lists lie.
+    /// The allocator of its lists.
     pub(crate) fn alloc(&self) -> Global {
         *self.entries.allocator()
     }

@@ -106,7 +106,7 @@ impl State {
         Ok(self.enter_coming(coming, asked, events, entries))
     }
 
-    /// Makes what the unit needs, and copies of what it delivers. What is known stays as it was.
+    /// Allocates all that the unit needs, and copies of its deliveries. The member is unchanged.
     fn prepare_coming(
         &mut self,
         bytes: &Bytes,
@@ -265,7 +265,7 @@ fn unchanged(alloc: Global, received: Received) -> Taken
     }
 }
 
-/// The frame of the bytes. What is no frame is refused without memory.
+/// The frame of the bytes. The call refuses bytes that are no frame, and takes no memory for that.
 pub fn read(alloc: Global, bytes: &Bytes) -> Result<Frame, ArriveRefusal>
     ensures frame { IfOk result (λ frame. frame_read bytes.now ≡ Ok (fields_of frame)) }
     ensures refused { IfErr result (RefusesBytes bytes.now) }

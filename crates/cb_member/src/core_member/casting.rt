@@ -15,8 +15,8 @@ use cb_history::{BurstRefusal, CastRefusal};
 use cb_times::{NoMemory, make_room};
 
 impl State {
-    /// Casts a message of this payload. Its event joins the events; what is told of it is handed out, and
-    /// the frame of the entry that a history would have of it.
+    /// Casts a message of this payload, and appends its event to the events. Returns the cast with the
+    /// copies that the caller wants, and the frame for the entry in a history.
     pub fn cast_joining(
         &mut self,
         payload: &[u8],
@@ -33,8 +33,8 @@ impl State {
         Ok(joined)
     }
 
-    /// Casts a message of each payload, all in one frame. Their events join the events; what is told of the burst is handed out, and the
-    /// frame of the entry that a history would have of it.
+    /// Casts a message of each payload, all in one frame, and appends their events to the events. Returns the burst with the copies that
+    /// the caller wants, and the frame for the entry in a history.
     pub fn cast_burst_joining(
         &mut self,
         payloads: &[&[u8]],

@@ -36,7 +36,7 @@ const LATE_ANSWER: &[u8] = b"\x11\x07\x01\x01\x01\x00\x02\x02yo";
 
 const SECOND_ANSWER: &[u8] = b"\x11\x07\x01\x02\x00\x03yes";
 
-/// What member 2 received before, the frame that comes then, and its course.
+/// The frames that member 2 received earlier, the frame that comes next, and its course.
 type Row = (&'static [&'static [u8]], &'static [u8], Way);
 
 #[test]
