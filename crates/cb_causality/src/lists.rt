@@ -6,7 +6,7 @@ ghost use Rattle.cb_causality.specs.Lists.{contents, lists_in};
 use cb_times::NoMemory;
 use std::alloc::Global;
 
-/// So many empty lists.
+/// That many empty lists.
 pub fn empty_lists<T: Drop>(alloc: Global, size: usize) -> Result<Vec<Vec<T>>, NoMemory>
     ensures { IfOk result (λ lists. contents lists.items ≡ replicate size []) }
 {

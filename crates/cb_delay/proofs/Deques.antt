@@ -13,7 +13,7 @@ use Rattle.std.proofs.lemmas.List.Sums.{sum_by-cons, sum_by-le, sum_by-set}
 use Rattle.std.specs.Int.{bit_at}
 use Rattle.cb_times.specs.Order.{field}
 use Rattle.cb_delay.specs.declared.index.Index.{Index}
-use Rattle.cb_delay.specs.Index.{IsIndex, IsSameIndex, HasShape, IsFresh}
+use Rattle.cb_delay.specs.Index.{IsCandidate, IsIndex, HasShape, IsFresh, LacksNext}
 use Rattle.cb_delay.proofs.Telling.{told_holding, told_releasing}
 use Rattle.cb_delay.proofs.Answering.{fresh_index}
 use Rattle.std.proofs.Math.Nat.{mul-le-mul_right}
@@ -21,11 +21,11 @@ use Rattle.cb_times.specs.Group.{IsGroupSize, IsWindow}
 use Rattle.cb_times.specs.declared.name.Name.{Name}
 use Rattle.cb_delay.specs.declared.message.Message.{Message}
 use Rattle.cb_delay.specs.Message.{name_cmp, IsOfGroup}
-use Rattle.cb_delay.specs.Queue.{Queue, Holds, IsNew, IsHeld, IsFirst, IsDelayQueue, count_of, FollowsLast}
+use Rattle.cb_delay.specs.Queue.{Queue, Holds, IsNew, IsHeld, IsFirst, IsDelayQueue, count_of, FollowsLast, next_name}
 use Rattle.cb_delay.specs.Lists.{IsRun, AreLists, list_of, queue_of, with_looks, entries_of, all_entries}
 use Rattle.cb_delay.proofs.Names.{names_total, exact_names}
-use Rattle.cb_delay.proofs.Runs.{found}
-use Rattle.cb_delay.proofs.Kept.{sorted, get-held, count-held, lists_holding, queue_holding, lists_releasing, queue_releasing, first_held, none_held, all_of_group}
+use Rattle.cb_delay.proofs.Runs.{found, is_at, place_of}
+use Rattle.cb_delay.proofs.Kept.{sorted, get-held, count-held, lists_holding, queue_holding, lists_releasing, queue_releasing, first_held, none_held, all_of_group, found_of_held, held_at, is_delay_queue, one_name}
 
 abbrev pub Deque : Type 0
 Deque = VecDeque Message Global
@@ -271,6 +271,36 @@ module _ (window : ℕ) (deques : List Deque) (are : AreLists window (lists_of d
       ] in
       λ other. none_held window (lists_of deques) are sender other (list ∙ nil_of_length d.items empty)
 
+-- the candidate of a sender's list is held under the name that comes next
+module _ (window : ℕ) (lists : List (List Message)) (are : AreLists window lists) (sender : ℕ) (now : List ℕ) where
+  next_is_held : (message : Message) → IsCandidate sender (list_of lists sender) now message → fin.get (queue_of window lists).held (next_name now sender) ≡ Some message
+  next_is_held message is =
+      let (k, x, below, at, same) = is.is_in in
+      let there : get_or (list_of lists sender) k x ≡ message = at ∙ same in
+      let of = subst (λ (m : Message). m.name.sender ≡ sender) there (is_at (length lists) sender (are.runs sender).0 (list_of lists sender) k x (are.runs sender).1 below).of_sender in
+      ap (fin.get (queue_of window lists).held) (sym (one_name message.name (next_name now sender) of is.next))
+      ∙ subst (IsHeld (queue_of window lists)) there (held_at window lists are sender k x below)
+
+  next_is_lacked : LacksNext sender (list_of lists sender) now → fin.get (queue_of window lists).held (next_name now sender) ≡ None
+  next_is_lacked lacks = by_get (fin.get (queue_of window lists).held (next_name now sender)) refl
+    where
+      by_get : (o : Option Message) → fin.get (queue_of window lists).held (next_name now sender) ≡ o → fin.get (queue_of window lists).held (next_name now sender) ≡ None
+      by_get None e = e
+      by_get (Some m) e =
+          let place = place_of (list_of lists sender) (next_name now sender) m (found_of_held window lists are sender (next_name now sender) m refl e) in
+          let named = (is_delay_queue window lists are).by_name (next_name now sender) m e in
+          absurd (lacks place.0 m place.1 (subst (λ (x : Message). x.name.number ≡ field now sender + 1) (sym (place.2 m)) (ap (λ (n : Name). n.number) named)))
+
+  pub next_some : (result : Option (Bor Message)) → IfSome result (λ m. IsCandidate sender (list_of lists sender) now m.now)
+      → IfSome result (λ m. fin.get (queue_of window lists).held (next_name now sender) ≡ Some m.now)
+  next_some None is = tt
+  next_some (Some m) is = next_is_held m.now is
+
+  pub next_none : (result : Option (Bor Message)) → IfNone result (LacksNext sender (list_of lists sender) now)
+      → IfNone result (fin.get (queue_of window lists).held (next_name now sender) ≡ None)
+  next_none None lacks = next_is_lacked lacks
+  next_none (Some m) lacks = tt
+
 -- of a sender that the group lacks none is held
 pub release_outside : (window : ℕ) (deques : List Deque) → AreLists window (lists_of deques) → (sender : ℕ) → length deques ≤ sender
     → (other : Message) → IsHeld (queue_of window (lists_of deques)) other → other.name.sender ≢ sender
@@ -371,23 +401,3 @@ all_of_group_here window deques are n size k d below =
     let list = list_of-deques deques k (get_or deques k d) below (again deques k d below) in
     subst (λ (m : ℕ). All (IsOfGroup m) (get_or deques k d).items) (sym size)
     (subst (λ (l : List Message). All (IsOfGroup (length (lists_of deques))) l) list (all_of_group window (lists_of deques) are k))
-
--- no list is longer than the window
-pub few_each : (window : ℕ) (deques : List Deque) → AreLists window (lists_of deques) → All (λ (d : Deque). deque_len d ≤ window) deques
-few_each window deques are k d below =
-    let list = list_of-deques deques k (get_or deques k d) below (again deques k d below) in
-    let items : length (list_of (lists_of deques) k) ≡ length (get_or deques k d).items = ap length list in
-    omega (arith, deque_len-items (get_or deques k d), items, are.room k)
-
--- of copied lists holds what held of them, and what an index of them said
-module _ (deques copies : List Deque) (same : lists_of copies ≡ lists_of deques) where
-  pub copied_lists : (window : ℕ) → AreLists window (lists_of deques) → AreLists window (lists_of copies)
-  copied_lists window are = subst (λ (ls : List (List Message)). AreLists window ls) (sym same) are
-
-  pub copied_index : (index other : Index) → IsSameIndex index other → IsIndex (lists_of deques) index → IsIndex (lists_of copies) other
-  copied_index index other as_was is = rw (same, as_was.last, as_was.places, as_was.waiting, as_was.ready, as_was.stale) is
-
-  pub copied_sum : (held : ℕ) → held ≡ sum_by (λ (d : Deque). deque_len d) deques → held ≡ sum_by (λ (d : Deque). deque_len d) copies
-  copied_sum held is =
-      let entries : length (all_entries (lists_of copies)) ≡ length (all_entries (lists_of deques)) = ap (λ ls. length (all_entries ls)) same in
-      omega (arith, is, entries, sum-lengths deques, sum-lengths copies)

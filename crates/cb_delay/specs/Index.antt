@@ -71,15 +71,6 @@ pub record IsFresh (size : ℕ) (index : Index) : Type 0 where
   pub stale : index.stale ≡ 0
   pub looked : index.looked ≡ 0
 
--- the two say the same of the same time
-pub record IsSameIndex (index other : Index) : Type 0 where
-  pub last : other.last ≡ index.last
-  pub places : other.places.items ≡ index.places.items
-  pub waiting : other.waiting.items ≡ index.waiting.items
-  pub ready : other.ready ≡ index.ready
-  pub stale : other.stale ≡ index.stale
-  pub looked : other.looked ≡ index.looked
-
 -- the time at which nobody need be looked at
 abbrev pub settled_at : Index → Option (List ℕ)
 settled_at index = cond (index.stale == 0) (Some index.last) None

@@ -74,6 +74,10 @@ HasNoneReady queue now = (sender : ℕ) → ¬ HasReady queue now sender
 abbrev pub with_one_more : List ℕ → ℕ → List ℕ
 with_one_more now sender = slice_set now sender (field now sender + 1)
 
+-- the name of the message of this sender that comes next at this time
+abbrev pub next_name : List ℕ → ℕ → Name
+next_name now sender = record { sender = sender; number = field now sender + 1 }
+
 -- of the senders with such a message this one is the smallest
 pub record IsSmallestReady (queue : Queue) (now : List ℕ) (sender : ℕ) : Type 0 where
   pub ready : HasReady queue now sender

@@ -6,7 +6,7 @@ ghost use Rattle.cb_times.specs.Group.{IsGroupSize};
 ghost use Rattle.cb_times.specs.Order.{field};
 ghost use Rattle.cb_delay.specs.declared.message.Message.{Message};
 ghost use Rattle.cb_delay.specs.declared.place.Place.TheVariants.{Ready, Waits};
-ghost use Rattle.cb_delay.specs.Index.{IsFresh, IsSameIndex, HasShape, Tells, AreRuns, IsPlaced, place_of};
+ghost use Rattle.cb_delay.specs.Index.{IsFresh, HasShape, Tells, AreRuns, IsPlaced, place_of};
 ghost use Rattle.cb_delay.specs.Lists.{list_of};
 
 use crate::lists::holds_some;
@@ -47,20 +47,6 @@ impl Index {
             ready: 0,
             stale: 0,
             looked: 0,
-        })
-    }
-
-    /// A second index that says the same.
-    pub fn copy(&self) -> Result<Index, NoMemory>
-        ensures { IfOk result (IsSameIndex self.now) }
-    {
-        Ok(Index {
-            last: self.last.copy()?,
-            places: Vec::from_slice(*self.places.allocator(), &self.places)?,
-            waiting: Vec::from_slice(*self.waiting.allocator(), &self.waiting)?,
-            ready: self.ready,
-            stale: self.stale,
-            looked: self.looked,
         })
     }
 

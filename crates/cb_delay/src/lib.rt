@@ -14,4 +14,5 @@ mod queue;
 
 pub use cb_times::Name;
 pub use message::{Event, Message, is_ready};
+pub use place::candidate;
 pub use queue::DelayQueue;

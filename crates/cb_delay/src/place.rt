@@ -11,7 +11,7 @@ use crate::message::{Message, count_above};
 use cb_times::VectorTime;
 use std::collections::VecDeque;
 
-/// So many fields of two times are compared at once.
+/// The fields of two times that are compared at once.
 pub const EIGHT: usize = 8;
 
 /// Where the candidate of a sender stands.
@@ -87,8 +87,12 @@ fn place_of_candidate(message: &Message, sender: u32, now: &VectorTime) -> Place
     }
 }
 
-/// The message of the list that comes next.
-fn candidate<'a>(list: &'a VecDeque<Message>, sender: u32, now: &VectorTime) -> Option<&'a Message>
+/// The message of this sender's list, which is in the order of the numbers with none left out, that comes next at this time.
+pub fn candidate<'a>(
+    list: &'a VecDeque<Message>,
+    sender: u32,
+    now: &VectorTime,
+) -> Option<&'a Message>
     requires sender { sender < length now.now }
     requires run { IsRun (length now.now) sender list.now.items }
     ensures none { IfNone result (LacksNext sender list.now.items now.now) }

@@ -1,12 +1,13 @@
 //! The delay queue: a list for each sender, and an index of which of them wait for whom.
-ghost use Rattle.std.specs.Prelude.{◌≡◌, ◌<◌, ◌≤◌, ℕ, length, IfOk, IfSome, IfNone, Some, true};
+ghost use Rattle.std.specs.Prelude.{◌≡◌, ◌<◌, ◌≤◌, ℕ, length, IfOk, IfSome, IfNone, Some, None, true};
 ghost use Rattle.std.specs.FinMap as map;
 ghost use Rattle.cb_times.specs.Group.{IsGroupSize, IsWindow};
 ghost use Rattle.cb_delay.specs.Message.{IsOfGroup};
-ghost use Rattle.cb_delay.specs.Queue.{IsNew, Holds, Releases, HoldsNoneOf, IsHeld, IsDelayQueue, IsFirst, IsSmallestReady, HasReady, HasNoneReady, with_one_more, FollowsLast, count_of};
+ghost use Rattle.cb_delay.specs.Queue.{IsNew, Holds, Releases, HoldsNoneOf, IsHeld, IsDelayQueue, IsFirst, IsSmallestReady, HasReady, HasNoneReady, with_one_more, next_name, FollowsLast, count_of};
 
 use crate::index::Index;
 use crate::message::Message;
+use crate::place::candidate;
 use crate::{lists, members};
 use cb_times::{Name, NoMemory, VectorTime};
 use std::alloc::Global;
@@ -27,7 +28,7 @@ use std::marker::Model;
 /// ```
 ///
 /// A message may be delivered where it is its sender's next one and its sender had delivered nothing that is missing
-/// here. Only `new` and `copy` take memory: they reserve the places for all messages that may be held at once.
+/// here. Only `new` takes memory: it reserves the places for all messages that may be held at once.
 #[derive(Debug, Drop)]
 pub struct DelayQueue {
     window: u32,
@@ -73,20 +74,6 @@ impl DelayQueue {
             window,
             lists,
             held: 0,
-            index,
-        })
-    }
-
-    /// A second queue that holds copies of the same messages, with the same room; their payloads are shared.
-    pub fn copy(&self) -> Result<DelayQueue, NoMemory>
-        ensures { IfOk result (λ copy. copy ≡ self.now) }
-    {
-        let lists = lists::copies(*self.lists.allocator(), &self.lists, self.window)?;
-        let index = self.index.copy()?;
-        Ok(DelayQueue {
-            window: self.window,
-            lists,
-            held: self.held,
             index,
         })
     }
@@ -190,6 +177,21 @@ impl DelayQueue {
         ensures none { IfNone result (HoldsNoneOf self.now sender) }
     {
         self.lists.get(sender as usize)?.front()
+    }
+
+    /// The message of this sender that comes next at this time, where it is held. It stays.
+    ///
+    /// Of the sender that `next_ready` answers at this time it is the one that may be delivered, also where messages before it are held.
+    pub fn next_of(&self, sender: u32, now: &VectorTime) -> Option<&Message>
+        requires length { length now.now ≡ self.now.size }
+        requires sender { sender < self.now.size }
+        ensures some { IfSome result (λ message.
+            map.get self.now.held (next_name now.now sender) ≡ Some message.now) }
+        ensures none { IfNone result (map.get self.now.held (next_name now.now sender) ≡ None) }
+        ensures queue { IsDelayQueue self.now }
+    {
+        let list = &self.lists[sender as usize];
+        candidate(list, sender, now)
     }
 
     /// How many messages are held.

@@ -5,7 +5,7 @@ ghost use Rattle.std.specs.List.{AllByRecursion};
 ghost use Rattle.cb_times.specs.Group.{IsGroupSize};
 ghost use Rattle.cb_times.specs.Time.{IsTime};
 ghost use Rattle.cb_frames.specs.Fields.{IsSome, CastFields, cast_fields, burst_fields, last_number};
-ghost use Rattle.cb_diffs.specs.Expansion.{greatest, AreMembersOf, IsToldBy, IsGrown, IsNext, IsNotNext, IsStrange, Expands, time_of};
+ghost use Rattle.cb_diffs.specs.Expansion.{greatest, AreMembers, AreMembersOf, IsToldBy, IsGrown, IsNext, IsNotNext, IsStrange, Expands, time_of};
 ghost use Rattle.cb_diffs.specs.FaultText.{expand_fault_text};
 ghost use Rattle.cb_diffs.specs.declared.expander.ExpandFault.TheVariants.{NoMemory as OutOfMemory};
 
@@ -168,6 +168,14 @@ impl Expander {
         Ok(())
     }
 
+    /// The time of the last message of this sender that was expanded, all zeros where none was.
+    pub fn last_time(&self, sender: u32) -> &VectorTime
+        requires { sender < length self.now }
+        ensures { result.now ≡ time_of self.now sender }
+    {
+        &self.times[sender as usize]
+    }
+
     #[tactic(auto, using(cb_frames::proofs::Carried::first_is_number))]
     fn check_next(&self, sender: u32, first: u32, changes: &[Change]) -> Result<(), ExpandFault>
         ensures ok { (c : CastFields) → IsToldBy c sender first changes.now
@@ -262,6 +270,17 @@ impl Expander {
         kept.copy_from(time);
         kept.set(burst.sender, last_of(burst));
     }
+}
+
+/// Makes the time of a sender's last message that of its next cast, as an expander would that keeps it.
+pub fn grow_by(time: &mut VectorTime, cast: &Cast)
+    requires { AreMembers (length time.old) (cast_fields cast.now) }
+    ensures grown { IsGrown time.old (cast_fields cast.now) time.new }
+    ensures size { length time.new ≡ length time.old }
+{
+    // asked for what is true of every time
+    let _size = time.size();
+    grow(time, cast.sender, cast.number, &cast.changes);
 }
 
 /// The number of the burst's last message.

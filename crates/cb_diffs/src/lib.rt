@@ -8,5 +8,5 @@ mod expander;
 mod laws;
 
 pub use differences::difference;
-pub use expander::{ExpandFault, Expander};
+pub use expander::{ExpandFault, Expander, grow_by};
 pub use laws::{differences_expand_back, expanding_is_summing, repeats_count_once};

@@ -10,7 +10,7 @@ use crate::writing::encode_cast_into;
 use bytes::{Bytes, BytesMut};
 use std::alloc::{AllocError, Global};
 
-/// So many bytes are taken at once.
+/// The bytes that are taken at once.
 const BLOCK: usize = 2016;
 
 /// A longer frame gets memory of its own, so that at most a fourth of a block is left over.

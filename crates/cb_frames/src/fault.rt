@@ -50,7 +50,7 @@ pub enum FrameFault {
 pub enum StreamFault {
     /// The length of a frame is spelled longer than it has to be, or is 0 or above the longest frame's.
     BadLength,
-    /// So many bytes as the length says are no frame. The fault is never `NoMemory`.
+    /// The bytes that the length counts are no frame. The fault is never `NoMemory`.
     BadFrame(FrameFault),
     /// Out of memory. Only a length with all its bytes can meet it.
     NoMemory,

@@ -81,7 +81,7 @@ fn increment_of(amount: u32) -> Result<u32, FrameFault>
     }
 }
 
-/// So many changes, or values where no field is `own`, and what is behind them. Most frames have none.
+/// That many changes, or values where no field is `own`, and the bytes after them. Most frames have none.
 ///
 /// Out of memory there is no list of them. They are read all the same, since a fault of the bytes is answered first.
 #[inline(always)]
@@ -173,7 +173,7 @@ fn list_short_changes(own: Option<u32>, count: u32, bytes: &[u8], changes: &mut 
     least
 }
 
-/// What is behind so many changes.
+/// The bytes after that many changes.
 #[inline(never)]
 pub fn pass_changes(own: Option<u32>, count: u32, bytes: &[u8]) -> Result<&[u8], FrameFault>
     ensures { AnswersAs (λ rest read. rest.now ≡ read.1) result
@@ -214,7 +214,7 @@ fn next_range(least: u64, bytes: &[u8]) -> Result<(Range, &[u8]), FrameFault>
     Ok((range, rest))
 }
 
-/// So many ranges, of numbers from 1 on.
+/// That many ranges, of numbers from 1 on.
 pub fn all_ranges(
     count: usize,
     bytes: &[u8],

@@ -35,7 +35,7 @@ fn next_payload(before: usize, bytes: &[u8]) -> Result<(&[u8], &[u8]), FrameFaul
     Ok(rest.split_at(length))
 }
 
-/// Where so many payloads lie in the bytes, and what is behind them.
+/// The places of that many payloads in the bytes, and the bytes after them.
 pub fn places_of_payloads(
     count: usize,
     bytes: &[u8],

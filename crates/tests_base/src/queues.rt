@@ -97,6 +97,22 @@ fn is_first(rt: &impl Abort, queue: &DelayQueue, sender: u32, name: Option<Name>
     same(rt, first, name);
 }
 
+/// Where so much of each member is delivered, the message of this name is the next one of member 1, or none that is held is.
+fn is_next_of_1(
+    rt: &impl Abort,
+    alloc: Global,
+    queue: &DelayQueue,
+    now: [u32; 3],
+    name: Option<Name>,
+)
+    requires { queue.now.size ≡ 3 }
+{
+    let time = time_of(rt, alloc, &now);
+    let next = queue.next_of(1, &time).map(|message| message.name);
+    drop(time);
+    same(rt, (now, next), (now, name));
+}
+
 #[test]
 fn an_answer_waits_for_its_question(rt: HostRuntime) {
     let alloc = rt.alloc();
@@ -106,6 +122,16 @@ fn an_answer_waits_for_its_question(rt: HostRuntime) {
     hold_second(&mut queue, ANSWER, message_of(&rt, alloc, QUESTION, 0));
     is_ready_at(&rt, alloc, &mut queue, [0, 0, 0], Some(0));
     the_answer_is_next(&rt, alloc, queue);
+}
+
+#[test]
+fn what_comes_next_of_a_member_is_found_though_it_waits(rt: HostRuntime) {
+    let alloc = rt.alloc();
+    let answer = message_of(&rt, alloc, ANSWER, 1);
+    let queue = queue_with(alloc, answer).expect(&rt, "memory");
+    is_next_of_1(&rt, alloc, &queue, [0, 0, 0], Some(ANSWER));
+    is_next_of_1(&rt, alloc, &queue, [1, 1, 0], None);
+    drop(queue);
 }
 
 /// Once the question is released the answer is ready, and the only one left.
