@@ -45,5 +45,6 @@ pub mod TakenApart
 pub mod TakingIn
 pub mod Telling
 pub mod Ticks
+pub mod ToldAhead
 pub mod Values
 pub mod Waiting

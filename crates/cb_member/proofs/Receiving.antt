@@ -151,7 +151,7 @@ kept_more casts i n (c ∷ singles) old new h numbered single lacks kept =
     omega (arith, one, more)
 
 -- they change neither what was taken nor the window
-kept_leave : (singles : List CastFields) (old new : Buffer) → AreKept old singles new → (new.taken ≡ old.taken) × (new.window ≡ old.window)
+pub kept_leave : (singles : List CastFields) (old new : Buffer) → AreKept old singles new → (new.taken ≡ old.taken) × (new.window ≡ old.window)
 kept_leave [] old new kept = (ap (λ (b : Buffer). b.taken) kept, ap (λ (b : Buffer). b.window) kept)
 kept_leave (c ∷ singles) old new kept =
     let rest = kept_leave singles kept.0 new kept.2 in
@@ -288,14 +288,14 @@ module _ (c : CastFields) (more : List (List ℕ)) (before after : Buffer) (stac
 -- ---- the next one is taken out
 
 -- the one message of a single
-abbrev only_message : CastFields → Carried
+abbrev pub only_message : CastFields → Carried
 only_message c = record { sender = c.sender; number = first_number c; payload = load_bytes c.load }
 
 carries_only : (c : CastFields) → IsSingle c → messages_of c ≡ only_message c ∷ []
 carries_only c single = carries_one c single ∙ ap (λ (n : ℕ). let m : Carried = record { sender = c.sender; number = n; payload = load_bytes c.load } in m ∷ []) (sym (first_is_number c))
 
 -- is one of the messages that are there
-message_of_single : (casts : List CastFields) (c : CastFields) → IsCastOf c (singles_among casts) → IsOneOf (only_message c) (messages_in casts)
+pub message_of_single : (casts : List CastFields) (c : CastFields) → IsCastOf c (singles_among casts) → IsOneOf (only_message c) (messages_in casts)
 message_of_single casts c there =
     let m = only_message c in
     in_is_one_of m (messages_in casts) (subst (IsIn m) (singles_are_the_same casts).messages
@@ -337,7 +337,7 @@ some_spare_is_left size before c times next are =
     omega (arith, some, count, times.ok.0)
 
 -- one cast less is kept
-one_kept_less : (before after : Buffer) (c : CastFields) → IsNext before c → Takes before c after → map.len after.kept + 1 ≡ map.len before.kept
+pub one_kept_less : (before after : Buffer) (c : CastFields) → IsNext before c → Takes before c after → map.len after.kept + 1 ≡ map.len before.kept
 one_kept_less before after c next takes =
     let some : map.contains_key before.kept (first_number c) ≡ true = ap is_some next.kept in
     let fewer : map.len after.kept ≡ map.len before.kept - 1 = ap (λ (b : Buffer). map.len b.kept) takes ∙ map.len-remove nat_cmp_total before.kept (first_number c)

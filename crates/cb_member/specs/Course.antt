@@ -63,11 +63,6 @@ pub record GoesAlone (c : CastFields) (time : List ℕ) (state : State) : Type 0
   pub ready : IsReady c.sender (field time) (field state.delivery.time)
   pub leaves : LeavesWaiting c.sender state.delivery
 
--- it may let go all that waits, and that are so many at most
-pub record CanLetGoAt (c : CastFields) (count : ℕ) (state : State) : Type 0 where
-  pub can : CanFollow c state
-  pub holds : HoldsAtMost c state count
-
 -- what a course asks for
 abbrev pub CanGo : CastFields → Course → State → Type 0
 CanGo c (Early spares) state = IsEarly c (times_in spares) state

@@ -8,6 +8,7 @@ pub mod CoreRuns
 pub mod Course
 pub mod Delivery
 pub mod Foreseen
+pub mod Foretelling
 pub mod Hearing
 pub mod Helping
 pub mod Kept

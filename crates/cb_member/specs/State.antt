@@ -53,7 +53,3 @@ pub record IsAlike (old new : State) : Type 0 where
   pub knowledge : new.knowledge ≡ old.knowledge
   pub sending : new.sending ≡ old.sending
   pub relays : new.relays.items ≡ old.relays.items
-
--- so it would be with the relays of the old one
-abbrev pub IsAlikeButRelays : State → State → Type 0
-IsAlikeButRelays old new = IsAlike old (record new { relays = old.relays })

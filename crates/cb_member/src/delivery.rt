@@ -36,15 +36,6 @@ impl Delivery {
         })
     }
 
-    pub fn copy(&self) -> Result<Delivery, NoMemory>
-        ensures { IfOk result (λ copy. copy ≡ self.now) }
-    {
-        Ok(Delivery {
-            time: self.time.copy()?,
-            queue: self.queue.copy()?,
-        })
-    }
-
     /// Whether nothing that waits may be delivered.
     pub fn has_none_ready(&mut self) -> bool
         requires { length self.old.time ≡ self.old.queue.size }

@@ -35,15 +35,6 @@ impl Knowledge {
         Ok(Knowledge { known, acks })
     }
 
-    pub fn copy(&self) -> Result<Knowledge, NoMemory>
-        ensures { IfOk result (λ copy. copy ≡ self.now) }
-    {
-        Ok(Knowledge {
-            known: self.known.copy()?,
-            acks: self.acks.copy()?,
-        })
-    }
-
     /// This member has cast as far as this.
     pub fn hear(&mut self, sender: u32, number: u32)
         requires { sender < length self.old.known }

@@ -16,6 +16,7 @@ mod core_member;
 mod delivery;
 #[cfg(test)]
 mod examples;
+mod foretelling;
 mod helping;
 mod kept;
 mod knowledge;

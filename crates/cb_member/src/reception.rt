@@ -1,6 +1,6 @@
 //! The casts and bursts received from others, until the delay queue has them.
 
-ghost use Rattle.std.specs.Prelude.{◌≡◌, ◌<◌, ◌+◌, true, None, IfOk, IfSome, IfNone, OnOk, OnSome, length, map};
+ghost use Rattle.std.specs.Prelude.{◌≡◌, ◌<◌, ◌+◌, true, None, IfOk, IfSome, IfNone, OnOk, OnSome, length};
 ghost use Rattle.std.specs.FinMap as fin;
 ghost use Rattle.cb_times.specs.Group.{IsGroupSize, IsWindow};
 ghost use Rattle.cb_diffs.specs.Expansion.{IsGrown, time_of};
@@ -48,16 +48,6 @@ impl Reception {
             buffers,
             expander: Expander::new(alloc, size)?,
             spares,
-        })
-    }
-
-    pub fn copy(&self) -> Result<Reception, NoMemory>
-        ensures { IfOk result (IsAlike self.now) }
-    {
-        Ok(Reception {
-            buffers: buffers_like(&self.buffers)?,
-            expander: self.expander.copy()?,
-            spares: spares_like(&self.spares)?,
         })
     }
 
@@ -136,7 +126,7 @@ impl Reception {
 }
 
 /// The next of the singles that wait in a buffer, where none is missing before it.
-fn take_single(buffer: &mut Reorder) -> Option<Cast>
+pub fn take_single(buffer: &mut Reorder) -> Option<Cast>
     requires { KeepsSingles buffer.old }
     ensures next { IfSome result (λ cast. IsNext buffer.old (cast_fields cast)) }
     ensures taken { IfSome result (λ cast. Takes buffer.old (cast_fields cast) buffer.new) }
@@ -166,31 +156,9 @@ fn expanded(expander: &mut Expander, cast: Cast, mut spare: VectorTime) -> Messa
     }
 }
 
-fn buffers_like(buffers: &Vec<Reorder>) -> Result<Vec<Reorder>, NoMemory>
-    ensures { IfOk result (λ copies. copies.items ≡ buffers.now.items) }
-{
-    let mut copies = Vec::with_capacity(*buffers.allocator(), buffers.len())?;
-    for buffer in buffers {
-        copies.push(buffer.copy()?)?;
-    }
-    Ok(copies)
-}
-
-/// As many spares of each member.
-fn spares_like(spares: &Vec<Vec<VectorTime>>) -> Result<Vec<Vec<VectorTime>>, NoMemory>
-    ensures { IfOk result (λ copies. map (λ times. times.items) copies.items
-        ≡ map (λ times. times.items) spares.now.items) }
-{
-    let mut copies = Vec::with_capacity(*spares.allocator(), spares.len())?;
-    for times in spares {
-        copies.push(VectorTime::copies(*times.allocator(), times)?)?;
-    }
-    Ok(copies)
-}
-
 /// The name of its first message.
 #[tactic(auto, using(cb_frames::proofs::Carried::first_is_number))]
-fn name_of(cast: &Cast) -> Name
+pub fn name_of(cast: &Cast) -> Name
     ensures { result ≡ record {
       sender = cast.now.sender;
       number = first_number (cast_fields cast.now);

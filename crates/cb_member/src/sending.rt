@@ -36,17 +36,6 @@ impl Sending {
         })
     }
 
-    pub fn copy(&self) -> Result<Sending, NoMemory>
-        ensures { IfOk result (λ copy. copy ≡ self.now) }
-    {
-        Ok(Sending {
-            window: self.window.copy()?,
-            last_cast: self.last_cast.copy()?,
-            has_reported: self.has_reported,
-            last_reported: self.last_reported.copy()?,
-        })
-    }
-
     /// Lets go of the own casts that are stable. For after a fact that is no own cast, once what it acknowledges is learnt.
     pub fn trim(&mut self, me: u32, acks: &Acks)
         requires { me < acks.now.size }

@@ -3,7 +3,7 @@
 ghost use Rattle.std.specs.Prelude.{◌≡◌, ◌≢◌, ◌<◌, IfOk, Some, None, length, nat_lt, if◌then◌else◌};
 ghost use Rattle.cb_history.specs.Group.{IsIdentity};
 ghost use Rattle.cb_history.specs.Known.{missing, ranges_of, stable_of};
-ghost use Rattle.cb_member.specs.State.{IsNewState, IsState, IsAlikeButRelays, OnAll};
+ghost use Rattle.cb_member.specs.State.{IsNewState, IsState, OnAll};
 
 use crate::delivery::Delivery;
 use crate::knowledge::Knowledge;
@@ -49,22 +49,6 @@ impl State {
             sending: Sending::new(alloc, size, window)?,
             relays: no_relays(alloc, seat)?,
             block: FrameBlock::new(alloc),
-        })
-    }
-
-    /// One that knows the same, but keeps nothing to be handed on.
-    pub fn copy(&self) -> Result<State, NoMemory>
-        ensures { IfOk result (IsAlikeButRelays self.now) }
-    {
-        Ok(State {
-            alloc: self.alloc,
-            seat: self.seat,
-            delivery: self.delivery.copy()?,
-            reception: self.reception.copy()?,
-            knowledge: self.knowledge.copy()?,
-            sending: self.sending.copy()?,
-            relays: Vec::new(self.alloc),
-            block: FrameBlock::new(self.alloc),
         })
     }
 

@@ -1,24 +1,28 @@
 //! Copies of what a cast or a burst will deliver, for a caller who wants messages of its own.
 
 ghost use Rattle.std.specs.Prelude.{◌≡◌, ◌∷◌, [], true, IfOk};
-ghost use Rattle.cb_frames.specs.Fields.{unit_fields};
+ghost use Rattle.cb_frames.specs.Fields.{cast_fields, unit_fields};
 ghost use Rattle.cb_history.specs.Singles.{IsSingle};
-ghost use Rattle.cb_member.specs.Course.{CanGo, CanLetGoAt};
-ghost use Rattle.cb_member.specs.Knowledge.{delivered_by};
-ghost use Rattle.cb_member.specs.Foreseen.{AreCopies, AreDeliveries};
+ghost use Rattle.cb_member.specs.Course.{CanGo};
+ghost use Rattle.cb_member.specs.Foreseen.{AreCopies, AreDeliveries, AreExpandedBy, ComeOutOf, IsTakingOut, OnlySettles};
 ghost use Rattle.cb_member.specs.Passing.{message_at};
+ghost use Rattle.cb_member.specs.Taking.{CanFollow};
 
 use crate::arrival::course::Course;
-use crate::singles::Spares;
+use crate::reception::{name_of, take_single};
+use crate::singles::Singles;
 use crate::state::State;
-use cb_delay::{Event, Message};
-use cb_frames::Unit;
+use cb_delay::Message;
+use cb_diffs::grow_by;
+use cb_frames::{Cast, Unit};
+use cb_gaps::Reorder;
 use cb_times::{Name, NoMemory, VectorTime};
 use std::alloc::Global;
-use std::mem;
+use std::collections::VecDeque;
 
 impl State {
-    /// Copies of the messages that the unit will deliver on its course, where they are wanted. Nothing changes.
+    /// Copies of the messages that the unit will deliver on its course, where they are wanted. Only what the delay queue remembers is
+    /// changed by asking.
     pub fn foreseen_if(
         &mut self,
         wanted: bool,
@@ -26,7 +30,7 @@ impl State {
         course: &Course,
     ) -> Result<Vec<Message>, NoMemory>
         requires { CanGo (unit_fields unit.now) course.now self.old }
-        ensures same { self.new ≡ self.old }
+        ensures same { OnlySettles self.old self.new }
         ensures copies { IfOk result (λ copies. wanted ≡ true
             → AreCopies (unit_fields unit.now) course.now self.old copies.items) }
     {
@@ -40,38 +44,70 @@ impl State {
     #[inline(never)]
     fn foreseen(&mut self, unit: &Unit, course: &Course) -> Result<Vec<Message>, NoMemory>
         requires { CanGo (unit_fields unit.now) course.now self.old }
-        ensures same { self.new ≡ self.old }
+        ensures same { OnlySettles self.old self.new }
         ensures copies { IfOk result (λ copies. AreCopies (unit_fields unit.now) course.now self.old
             copies.items) }
     {
         match course {
             Course::Early { .. } | Course::Waits { .. } => Ok(Vec::new(self.alloc)),
             Course::Alone { time } => alone(self.alloc, unit, time),
-            Course::LeadsOn { most, .. } => self.delivered_by_twin(unit, *most),
-            Course::LetsGo { most, .. } => self.delivered_by_twin(unit, *most),
+            Course::LeadsOn { .. } | Course::LetsGo { .. } => self.deliveries_of(unit),
         }
     }
 
-    /// What a copy of the state delivers. Rarely is more than one message delivered, and then only is this paid. The copy has the
-    /// relays for so long, which are not copied.
-    #[inline(never)]
-    fn delivered_by_twin(&mut self, unit: &Unit, most: usize) -> Result<Vec<Message>, NoMemory>
-        requires { CanLetGoAt (unit_fields unit.now) most self.old }
-        ensures same { self.new ≡ self.old }
+    /// What the unit lets be expanded, and what goes once that waits as well. Only of that copies are made.
+    fn deliveries_of(&mut self, unit: &Unit) -> Result<Vec<Message>, NoMemory>
+        requires { CanFollow (unit_fields unit.now) self.old }
+        ensures same { OnlySettles self.old self.new }
         ensures copies { IfOk result (λ copies. AreDeliveries (unit_fields unit.now) self.old
             copies.items) }
     {
-        let mut twin = self.copy()?;
-        let spares = Spares::for_cast(self.alloc, self.seat.group().size(), unit)?;
-        twin.reception.reserve(unit.sender(), spares.len())?;
-        let mut events = Vec::with_capacity(self.alloc, most)?;
-        let unit = unit.copy()?;
-        mem::swap(&mut self.relays, &mut twin.relays);
-        twin.go(unit, Course::LetsGo { spares, most }, &mut events);
-        mem::swap(&mut self.relays, &mut twin.relays);
-        drop(twin);
-        messages_of(self.alloc, events)
+        let coming = self.expanded_by(unit)?;
+        self.delivery.foretell(self.alloc, unit.sender(), &coming)
     }
+
+    /// The messages that the unit lets be expanded, in order. A copy of its sender's buffer keeps it.
+    fn expanded_by(&self, unit: &Unit) -> Result<VecDeque<Message>, NoMemory>
+        requires { CanFollow (unit_fields unit.now) self.now }
+        ensures { IfOk result (λ messages. AreExpandedBy (unit_fields unit.now) self.now
+            messages.items) }
+    {
+        let sender = unit.sender();
+        let mut buffer = self.reception.buffers[sender as usize].copy()?;
+        let singles = Singles::of(unit.copy()?);
+        singles.keep_in(&mut buffer, self.delivery.time.get(sender));
+        let time = self.reception.expander.last_time(sender).copy()?;
+        come_out(self.alloc, &mut buffer, time)
+    }
+}
+
+/// The messages of the singles that come out of the buffer one after the other, where this is the time of the sender's last one before.
+fn come_out(
+    alloc: Global,
+    buffer: &mut Reorder,
+    time: VectorTime,
+) -> Result<VecDeque<Message>, NoMemory>
+    requires { IsTakingOut buffer.old time }
+    ensures { IfOk result (λ messages. ComeOutOf buffer.old time messages.items) }
+{
+    let mut last = time;
+    let mut messages = VecDeque::new(alloc);
+    'singles: while let Some(cast) = take_single(buffer) {
+        grow_by(&mut last, &cast);
+        messages.push_back(told(cast, &last)?)?;
+    }
+    Ok(messages)
+}
+
+/// The message of a single at this time.
+fn told(cast: Cast, time: &VectorTime) -> Result<Message, NoMemory>
+    ensures { IfOk result (λ message. message ≡ message_at (cast_fields cast) time.now) }
+{
+    Ok(Message {
+        name: name_of(&cast),
+        time: time.copy()?,
+        payload: cast.payload,
+    })
 }
 
 #[tactic(auto, using(cb_frames::proofs::Carried::first_is_number))]
@@ -94,18 +130,4 @@ fn alone(alloc: Global, unit: &Unit, time: &VectorTime) -> Result<Vec<Message>, 
     let mut copies = Vec::with_capacity(alloc, 1)?;
     copies.push(message)?;
     Ok(copies)
-}
-
-/// The messages that are delivered by these events.
-fn messages_of(alloc: Global, events: Vec<Event>) -> Result<Vec<Message>, NoMemory>
-    ensures { IfOk result (λ messages. messages.items ≡ delivered_by events.items) }
-{
-    let mut messages = Vec::with_capacity(alloc, events.len())?;
-    for event in events {
-        match event {
-            Event::Deliver(message) => messages.push(message)?,
-            Event::Cast(message) => drop(message),
-        }
-    }
-    Ok(messages)
 }
