@@ -14,7 +14,7 @@ use Rattle.cb_history.specs.Answers.{deliveries}
 use Rattle.cb_history.specs.LegalFacts.{AreFactsOf}
 use Rattle.cb_history.proofs.Walks.{view_status}
 use Rattle.cb_member.specs.declared.arrival.course.Course.{Course}
-use Rattle.cb_member.specs.declared.arrival.course.Course.TheVariants.{Early, Waits, Alone, LeadsOn, LetsGo}
+use Rattle.cb_member.specs.declared.arrival.course.Course.TheVariants.{Early, Waits, Alone, AllAlone, LeadsOn, LetsGo}
 use Rattle.cb_member.specs.declared.state.State.{State}
 use Rattle.cb_member.specs.Arriving.{Changes, IsNew}
 use Rattle.cb_member.specs.Foreseen.{AreCopies, JoinsEvents}
@@ -79,12 +79,18 @@ one_of before after ms m one joins =
     let same : Deliver m ∷ [] ≡ map (λ m. Deliver m) ms = append_cancel_left before (Deliver m ∷ []) (map (λ m. Deliver m) ms) (sym one ∙ joins) in
     sym (only_deliveries ms) ∙ ap delivered_by (sym same)
 
+all_of : (before after events : List Event) (ms : List Message) → after ≡ before ++ events → after ≡ before ++ map (λ m. Deliver m) ms → ms ≡ delivered_by events
+all_of before after events ms all joins =
+    let same : events ≡ map (λ m. Deliver m) ms = append_cancel_left before events (map (λ m. Deliver m) ms) (sym all ∙ joins) in
+    sym (only_deliveries ms) ∙ ap delivered_by (sym same)
+
 -- the copies are what is delivered
 pub copies_are : (c : CastFields) (course : Course) (state : State) (facts : List Fact) (copies : List Message) (before after : List Event) → AreFactsOf state.seat (facts ++ CastReceived c ∷ []) → Keeps facts state
     → AreCopies c course state copies → JoinsEvents c course before after → after ≡ before ++ map (λ m. Deliver m) (deliveries state.seat facts (CastFrame c)) → copies ≡ deliveries state.seat facts (CastFrame c)
 copies_are c (Early spare) state facts copies before after are keeps copied joins events = copied ∙ sym (none_of before after _ joins events)
 copies_are c (Waits time) state facts copies before after are keeps copied joins events = copied ∙ sym (none_of before after _ joins events)
 copies_are c (Alone time) state facts copies before after are keeps copied joins events = copied ∙ sym (one_of before after _ _ joins events)
+copies_are c (AllAlone spare deliveries) state facts copies before after are keeps copied joins events = copied ∙ sym (all_of before after deliveries.items _ joins events)
 copies_are c (LeadsOn time count) state facts copies before after are keeps copied joins events = copied facts are keeps
 copies_are c (LetsGo spare count) state facts copies before after are keeps copied joins events = copied facts are keeps
 

@@ -33,7 +33,7 @@ use Rattle.cb_history.proofs.Times.{upto_other}
 use Rattle.cb_history.proofs.RisingByCasts.{cast_is_acknowledged_of}
 use Rattle.cb_history.proofs.Statuses.{last_status_with_one_more}
 use Rattle.cb_member.specs.declared.arrival.course.Course.{Course}
-use Rattle.cb_member.specs.declared.arrival.course.Course.TheVariants.{Early, Waits as Waiting, Alone, LeadsOn, LetsGo}
+use Rattle.cb_member.specs.declared.arrival.course.Course.TheVariants.{Early, Waits as Waiting, Alone, AllAlone, LeadsOn, LetsGo}
 use Rattle.cb_member.specs.declared.delivery.Delivery.{Delivery}
 use Rattle.cb_member.specs.declared.sending.Sending.{Sending}
 use Rattle.cb_member.specs.declared.state.State.{State}
@@ -54,6 +54,7 @@ pub can_follow : (c : CastFields) (course : Course) (state : State) → CanGo c 
 can_follow c (Early spare) state can = can.can.can
 can_follow c (Waiting time) state can = can.has_time.can
 can_follow c (Alone time) state can = can.has_time.can
+can_follow c (AllAlone spare deliveries) state can = can.can
 can_follow c (LeadsOn time count) state can = can.0.can
 can_follow c (LetsGo spare count) state can = can.0.can
 

@@ -1,12 +1,17 @@
 -- The payloads of a burst, gone through one by one.
-use Rattle.std.proofs.Common.{◌≡◌, ℕ, suc, ◌+◌, ◌<◌, ◌≤◌, List, [], ◌∷◌, ◌++◌, length, map, drop, get_or, set, subst, sym, ap, ◌∙◌, append_assoc, arith}
+use Rattle.std.proofs.Common.{◌≡◌, ℕ, suc, ◌+◌, ◌<◌, ◌≤◌, List, [], ◌∷◌, ◌++◌, length, map, drop, get_or, set, refl, subst, sym, ap, ◌∙◌, append_assoc, arith}
 use Rattle.std.specs.List.{concat}
 use Rattle.std.proofs.lemmas.List.{append-nil, drop_all, drop_more, length-append}
 use denote.Ref.{Bor}
 use Rattle.cb_times.specs.Order.{field}
 use Rattle.cb_delay.specs.declared.message.Message.{Message}
+use Rattle.cb_delay.specs.declared.message.Event.{Event}
+use Rattle.cb_delay.specs.declared.message.Event.TheVariants.{Deliver}
+use Rattle.cb_frames.specs.declared.frame.Burst.{Burst}
+use Rattle.cb_frames.specs.Fields.{Carried, burst_fields, messages_of, numbered}
 use Rattle.cb_frames.specs.Laws.{IsBytes}
 use Rattle.cb_history.proofs.Replays.{one_more_byte}
+use Rattle.cb_member.specs.Passing.{burst_delivered, carried_at, deliveries_at}
 use Rattle.cb_member.proofs.Casting.{stamp, stamped}
 
 pub one_and_rest : {X : Type 0} (xs : List X) (i : ℕ) (x : X) → i < length xs → x ≡ get_or xs i x → drop i xs ≡ x ∷ drop (i + 1) xs
@@ -70,3 +75,38 @@ one_message_more me time payloads i p messages more all message lt is made pushe
 pub all_messages : (me : ℕ) (time : List ℕ) (payloads : List (List ℕ)) (i : ℕ) (messages all : List Message) → length payloads ≤ i → messages ++ stamped me time (drop i payloads) ≡ all → messages ≡ all
 all_messages me time payloads i messages all past so_far =
     sym (append-nil messages) ∙ sym (ap (λ (ps : List (List ℕ)). messages ++ stamped me time ps) (drop_all i payloads past)) ∙ so_far
+
+-- ---- what is delivered of a received one
+
+abbrev pub carried : ℕ → ℕ → List ℕ → Carried
+carried sender number payload = record { sender = sender; number = number; payload = payload }
+
+burst_messages : (burst : Burst) → messages_of (burst_fields burst) ≡ numbered burst.sender burst.first burst.payloads.items
+unfolding messages_of
+burst_messages burst = refl
+
+-- the deliveries so far and those still to be made are all
+abbrev pub SoFar : List ℕ → Burst → ℕ → List Event → Type 0
+SoFar time burst i deliveries =
+    deliveries ++ deliveries_at time (numbered burst.sender (burst.first + i) (drop i burst.payloads.items)) ≡ burst_delivered (burst_fields burst) time
+
+pub none_so_far : (time : List ℕ) (burst : Burst) → SoFar time burst 0 []
+none_so_far time burst =
+    let first : burst.first + 0 ≡ burst.first = omega arith in
+    ap (λ (n : ℕ). deliveries_at time (numbered burst.sender n burst.payloads.items)) first ∙ ap (deliveries_at time) (sym (burst_messages burst))
+
+pub one_delivery_more : (time : List ℕ) (burst : Burst) (i : ℕ) (p : List ℕ) (deliveries more : List Event) (event : Event) → i < length burst.payloads.items → p ≡ get_or burst.payloads.items i p
+    → event ≡ Deliver (carried_at time (carried burst.sender (burst.first + i) p)) → more ≡ deliveries ++ event ∷ [] → SoFar time burst i deliveries → SoFar time burst (i + 1) more
+one_delivery_more time burst i p deliveries more event lt is made pushed so_far =
+    let payloads = burst.payloads.items in
+    let rest : ℕ → List Event = λ n. deliveries_at time (numbered burst.sender n (drop (i + 1) payloads)) in
+    let next : burst.first + (i + 1) ≡ burst.first + i + 1 = omega arith in
+    ap (λ (es : List Event). es ++ rest (burst.first + (i + 1))) (pushed ∙ ap (λ (e : Event). deliveries ++ e ∷ []) made)
+    ∙ append_assoc deliveries (Deliver (carried_at time (carried burst.sender (burst.first + i) p)) ∷ []) (rest (burst.first + (i + 1)))
+    ∙ ap (λ (n : ℕ). deliveries ++ Deliver (carried_at time (carried burst.sender (burst.first + i) p)) ∷ rest n) next
+    ∙ ap (λ (ps : List (List ℕ)). deliveries ++ deliveries_at time (numbered burst.sender (burst.first + i) ps)) (sym (one_and_rest payloads i p lt is))
+    ∙ so_far
+
+pub all_deliveries : (time : List ℕ) (burst : Burst) (i : ℕ) (deliveries : List Event) → length burst.payloads.items ≤ i → SoFar time burst i deliveries → deliveries ≡ burst_delivered (burst_fields burst) time
+all_deliveries time burst i deliveries past so_far =
+    sym (append-nil deliveries) ∙ sym (ap (λ (ps : List (List ℕ)). deliveries ++ deliveries_at time (numbered burst.sender (burst.first + i) ps)) (drop_all i burst.payloads.items past)) ∙ so_far

@@ -1,14 +1,16 @@
 -- What a cast lets be expanded waits with what is held, and what a drain would deliver of both is what the cast delivers.
-use Rattle.std.proofs.Common.{◌≡◌, ℕ, zero, suc, ◌+◌, ◌<◌, ◌≤◌, inl, inr, List, [], ◌∷◌, ◌++◌, length, map, drop, replicate, set, get_or, None, true, Some, refl, sym, ap, subst, ◌∙◌, arith}
+use Rattle.std.proofs.Common.{◌≡◌, ℕ, zero, suc, ◌+◌, ◌<◌, ◌≤◌, inl, inr, List, [], ◌∷◌, ◌++◌, length, map, drop, replicate, set, get_or, None, true, Some, refl, sym, ap, subst, ◌∙◌, append_assoc, arith}
 use Rattle.std.specs.Prelude.{slice_get}
 use Rattle.std.specs.List.{Contains}
 use Rattle.std.specs.FinMap as fin
 use Rattle.std.proofs.lemmas.Bool.{cases_eq, cases_lt, eq-eqb}
-use Rattle.std.proofs.lemmas.List.{drop_at, get_or-replicate, length-replicate}
+use Rattle.std.proofs.lemmas.List.{append-nil, drop_all, drop_at, get_or-replicate, length-replicate}
 use Rattle.std.proofs.lemmas.List.FromFn.{length-map-range_with_len}
 use Rattle.cb_times.specs.Order.{field}
 use Rattle.cb_frames.specs.Fields.{load_bytes, CastFields, CastFrame, Carried, first_number, last_number}
 use Rattle.cb_frames.proofs.Carried.{last_is_first, one_has_some}
+use Rattle.cb_delay.specs.declared.message.Event.{Event}
+use Rattle.cb_delay.specs.declared.message.Event.TheVariants.{Cast, Deliver}
 use Rattle.cb_delay.specs.declared.message.Message.{Message}
 use Rattle.cb_delay.specs.Lists.{IsRun, IsRunFrom}
 use Rattle.cb_delay.specs.Message.{IsOfGroup}
@@ -40,18 +42,20 @@ use Rattle.cb_history.proofs.Taking.{cast_waits_for_its_turn}
 use Rattle.cb_history.proofs.Views.{casts_in-append, filter_in, in_filter}
 use Rattle.cb_history.proofs.Walks.{view_received}
 use Rattle.cb_member.specs.declared.arrival.course.Course.{Course}
-use Rattle.cb_member.specs.declared.arrival.course.Course.TheVariants.{Early, Waits, Alone, LeadsOn, LetsGo}
+use Rattle.cb_member.specs.declared.arrival.course.Course.TheVariants.{Early, Waits, Alone, AllAlone, LeadsOn, LetsGo}
 use Rattle.cb_member.specs.declared.delivery.Delivery.{Delivery}
 use Rattle.cb_member.specs.declared.state.State.{State}
 use Rattle.cb_member.specs.Course.{CanGo}
 use Rattle.cb_member.specs.Delivery.{IsSettled}
 use Rattle.cb_member.specs.Foreseen.{AreCopies, AreDeliveries, AreExpandedBy, AreNextOf, ComeOutOf, HasTakenOut, IsTakingOut, OnlySettles}
 use Rattle.cb_member.specs.Foretelling.{CanForetell, IsHeldWith, WaitWith, WouldDrain}
+use Rattle.cb_member.specs.Knowledge.{delivered_by}
 use Rattle.cb_member.specs.Passing.{message_at}
 use Rattle.cb_member.specs.Singles.{KeepsSingles, times_in}
 use Rattle.cb_member.specs.State.{IsAlike, Keeps}
 use Rattle.cb_member.specs.Taking.{CanFollow, CanTakeIn, IsNextOf, reported}
 use Rattle.cb_member.proofs.Alike.{alike_back, can_follow_alike, holds_alike, keeps_alike, leaves_alike, legal_alike, none_ready_alike, with_settled}
+use Rattle.cb_member.proofs.Bursting.{one_and_rest}
 use Rattle.cb_member.proofs.Courses.{has_time_alike}
 use Rattle.cb_member.proofs.ToldAhead.{above_is_unseen}
 use Rattle.cb_member.proofs.Receiving.{kept_leave, message_of_single, one_buffer, only_message, singles_with_cast}
@@ -380,6 +384,17 @@ module _ (c : CastFields) (old : State) (d : Delivery) (settled : IsSettled old.
     ready = subst (λ (now : List ℕ). IsReady c.sender (field time) (field now)) (sym settled.time) can.ready;
     leaves = leaves_alike c.sender old.delivery d settled can.leaves;
   }
+  can_go_then (AllAlone spare deliveries) can = record {
+    can = can_follow_alike c old _ alike can.can;
+    many = can.many;
+    in_order = can.in_order;
+    none_held = ap fin.len settled.queue.now_held ∙ can.none_held;
+    time = can.time;
+    grown = can.grown;
+    ready = subst (λ (now : List ℕ). IsReady c.sender (field can.time) (field now)) (sym settled.time) can.ready;
+    fits = can.fits;
+    are_all = can.are_all;
+  }
   can_go_then (LeadsOn time count) can = (has_time_alike c time old _ alike can.0, holds_alike c count old _ alike can.1)
   can_go_then (LetsGo spares count) can = (can_take_then (times_in spares) can.0, holds_alike c count old _ alike can.1)
 
@@ -396,5 +411,24 @@ pub copies_settled : (c : CastFields) (course : Course) (old new : State) (copie
 copies_settled c (Early spares) old new copies same are = are
 copies_settled c (Waits time) old new copies same are = are
 copies_settled c (Alone time) old new copies same are = are
+copies_settled c (AllAlone spare deliveries) old new copies same are = are
 copies_settled c (LeadsOn time count) old new copies same are = deliveries_settled c old new copies same are
 copies_settled c (LetsGo spares count) old new copies same are = deliveries_settled c old new copies same are
+
+-- ---- copies of what is delivered, one after another
+
+first_and_rest : (event : Event) (events : List Event) → delivered_by (event ∷ events) ≡ delivered_by (event ∷ []) ++ delivered_by events
+first_and_rest (Deliver m) events = refl
+first_and_rest (Cast m) events = refl
+
+pub one_copy_more : (events : List Event) (i : ℕ) (event : Event) (copies more : List Message) → i < length events → event ≡ get_or events i event → more ≡ copies ++ delivered_by (event ∷ [])
+    → copies ++ delivered_by (drop i events) ≡ delivered_by events → more ++ delivered_by (drop (i + 1) events) ≡ delivered_by events
+one_copy_more events i event copies more lt is pushed so_far =
+    ap (λ (ms : List Message). ms ++ delivered_by (drop (i + 1) events)) pushed
+    ∙ append_assoc copies (delivered_by (event ∷ [])) (delivered_by (drop (i + 1) events))
+    ∙ ap (λ (ms : List Message). copies ++ ms) (sym (first_and_rest event (drop (i + 1) events)))
+    ∙ ap (λ (es : List Event). copies ++ delivered_by es) (sym (one_and_rest events i event lt is))
+    ∙ so_far
+
+pub all_copies : (events : List Event) (i : ℕ) (copies : List Message) → length events ≤ i → copies ++ delivered_by (drop i events) ≡ delivered_by events → copies ≡ delivered_by events
+all_copies events i copies past so_far = sym (append-nil copies) ∙ sym (ap (λ (es : List Event). copies ++ delivered_by es) (drop_all i events past)) ∙ so_far

@@ -6,6 +6,9 @@ pub mod Arriving
 pub mod Asking
 pub mod Awaiting
 pub mod Behind
+pub mod BurstGoing
+pub mod BurstQueue
+pub mod BurstTimes
 pub mod Bursting
 pub mod Casting
 pub mod CoreArrivals

@@ -41,7 +41,7 @@ use Rattle.cb_member.proofs.TakingIn.{of_other, of_member, TakesOne, expanded_th
 
 -- ---- lists that are written over
 
-written_twice : {A : Type 0} → (xs : List A) (i : ℕ) (a b : A) → set (set xs i a) i b ≡ set xs i b
+pub written_twice : {A : Type 0} → (xs : List A) (i : ℕ) (a b : A) → set (set xs i a) i b ≡ set xs i b
 written_twice [] i a b = refl
 written_twice (x ∷ xs) zero a b = refl
 written_twice (x ∷ xs) (suc i) a b = ap (λ rest. x ∷ rest) (written_twice xs i a b)

@@ -36,7 +36,7 @@ taken_out : (held : fin.FinMap name_cmp Message) (name q : Name) (m : Message) (
 taken_out held name q m true none e = let parts = eq_by_cmp-true q name e in sym (ap (fin.get held) (one_name q name parts.0 parts.1) ∙ none)
 taken_out held name q m false none e = refl
 
-held_and_taken : (held : fin.FinMap name_cmp Message) (name : Name) (m : Message) → fin.get held name ≡ None → fin.remove (fin.insert held name m) name ≡ held
+pub held_and_taken : (held : fin.FinMap name_cmp Message) (name : Name) (m : Message) → fin.get held name ≡ None → fin.remove (fin.insert held name m) name ≡ held
 held_and_taken held name m none = fin.same_map names_total exact_names _ _ (λ q.
     fin.get-remove names_total (fin.insert held name m) name q
     ∙ ap (cond (eq_by_cmp name_cmp q name) None) (fin.get-insert names_total held name m q)
@@ -108,6 +108,32 @@ counts_it now stamp sender lt fits ready = record {
   ];
 }
 
+-- ---- the next one
+
+-- where a message that is held may be delivered, and the next delivery is of its sender, it is that one
+module _ (d : Delivery) (message : Message) (there : IsHeld d.queue message) (ready : IsReady message.name.sender (field message.time) (field d.time)) where
+  pub ready_is_next : (size : ℕ) (casts : List CastFields) (seen : List Carried) (m : Carried) → Waits size casts seen d → next_delivery size casts seen ≡ Some m → m.sender ≡ message.name.sender
+      → message ≡ message_in size casts m
+  ready_is_next size casts seen m w next of =
+      let sender = message.name.sender in
+      let u = (w.queue.holds message).0 there in
+      let n = u.carried in
+      let name : n.sender ≡ sender = sym (ap (λ (x : Message). x.name.sender) u.timed) in
+      let member : n.sender < size = w.way.members n (in_casts casts n u.expanded) in
+      let rule : IsReady n.sender (field (message_in size casts n).time) (field (counts size seen)) =
+      subst (λ (s : ℕ). IsReady s (field (message_in size casts n).time) (field (counts size seen))) (sym name)
+      (subst (λ (x : Message). IsReady sender (field x.time) (field (counts size seen))) u.timed
+      (subst (λ (time : List ℕ). IsReady sender (field message.time) (field time)) w.time ready)) in
+      let number = next_is_the_only_candidate size casts seen n member ((readiness_is_the_delay_rule size casts seen n member).1 (u.unseen, (rule_of_times size casts seen n member).0 rule)) in
+      let smallest = next_is_smallest_ready size casts seen m next in
+      let m_there = in_casts casts m smallest.expanded in
+      let m_number = next_is_the_only_candidate size casts seen m (w.way.members m m_there) smallest.ready in
+      let senders : n.sender ≡ m.sender = name ∙ sym of in
+      let counted : count seen n.sender ≡ count seen m.sender = ap (count seen) senders in
+      let same : n ≡ m =
+      one_message (messages_in casts) n m w.way.names (one_of_is_in n (messages_in casts) (in_casts casts n u.expanded)) (one_of_is_in m (messages_in casts) m_there) senders (omega (arith, number, m_number, counted)) in
+      u.timed ∙ ap (message_in size casts) same
+
 -- ---- delivered alone
 
 module _ (d : Delivery) (message : Message) (is_queue : IsDelayQueue d.queue) (alone : IsAlone message d) where
@@ -120,28 +146,6 @@ module _ (d : Delivery) (message : Message) (is_queue : IsDelayQueue d.queue) (a
 
   ready_then : HasReady held.queue held.time sender
   ready_then = (message, holds_it d.queue message, refl, alone.ready)
-
-  -- where the walk's next message is of its sender, it is that one
-  it_is_next : (size : ℕ) (casts : List CastFields) (seen : List Carried) (m : Carried) → Waits size casts seen held → next_delivery size casts seen ≡ Some m → m.sender ≡ sender
-      → message ≡ message_in size casts m
-  it_is_next size casts seen m w next of =
-      let u = (w.queue.holds message).0 (holds_it d.queue message) in
-      let n = u.carried in
-      let name : n.sender ≡ sender = sym (ap (λ (x : Message). x.name.sender) u.timed) in
-      let member : n.sender < size = w.way.members n (in_casts casts n u.expanded) in
-      let rule : IsReady n.sender (field (message_in size casts n).time) (field (counts size seen)) =
-      subst (λ (s : ℕ). IsReady s (field (message_in size casts n).time) (field (counts size seen))) (sym name)
-      (subst (λ (x : Message). IsReady sender (field x.time) (field (counts size seen))) u.timed
-      (subst (λ (time : List ℕ). IsReady sender (field message.time) (field time)) w.time alone.ready)) in
-      let number = next_is_the_only_candidate size casts seen n member ((readiness_is_the_delay_rule size casts seen n member).1 (u.unseen, (rule_of_times size casts seen n member).0 rule)) in
-      let smallest = next_is_smallest_ready size casts seen m next in
-      let m_there = in_casts casts m smallest.expanded in
-      let m_number = next_is_the_only_candidate size casts seen m (w.way.members m m_there) smallest.ready in
-      let senders : n.sender ≡ m.sender = name ∙ sym of in
-      let counted : count seen n.sender ≡ count seen m.sender = ap (count seen) senders in
-      let same : n ≡ m =
-      one_message (messages_in casts) n m w.way.names (one_of_is_in n (messages_in casts) (in_casts casts n u.expanded)) (one_of_is_in m (messages_in casts) m_there) senders (omega (arith, number, m_number, counted)) in
-      u.timed ∙ ap (message_in size casts) same
 
   module _ (time : List ℕ) (counted : time ≡ set d.time message.name.sender (field d.time message.name.sender + 1)) where
     abbrev after : Delivery
@@ -159,7 +163,7 @@ module _ (d : Delivery) (message : Message) (is_queue : IsDelayQueue d.queue) (a
         ];
       };
       held = holds_it d.queue message;
-      next = it_is_next;
+      next = ready_is_next held message (holds_it d.queue message) alone.ready;
       taken = record { size = refl; window = refl; now_held = sym (held_and_taken d.queue.held message.name message (none_under_its_name d.queue message is_queue (alone.turn is_queue).2)) };
       raised = subst (IsRaised d.time message.time) (sym counted) (counts_it d.time message.time message.name.sender alone.sender alone.fits alone.ready);
     }

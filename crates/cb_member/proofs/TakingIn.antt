@@ -326,7 +326,7 @@ heard_at_first facts c i =
     ap (λ (k : ℕ). greatest_of (map (λ n. expanded_field (casts_in facts ++ c ∷ []) c.sender n i) (range_with_len (low + 1) k))) none in
     omega (arith, nothing)
 
-number_heard : (facts : List Fact) (c : CastFields) (i : ℕ) (old : List ℕ) → i < length old → field old i ≡ known facts i
+pub number_heard : (facts : List Fact) (c : CastFields) (i : ℕ) (old : List ℕ) → i < length old → field old i ≡ known facts i
     → field (set old c.sender (max (field old c.sender) (last_number c))) i ≡ max (known facts i) (cond (eqb c.sender i) (last_number c) 0)
 number_heard facts c i old lt is = elim (cases_eq c.sender i) [
   | inl e ↦

@@ -15,9 +15,10 @@ use Rattle.cb_history.specs.LegalFacts.{AreFactsOf}
 use Rattle.cb_history.specs.Singles.{singles_in}
 use Rattle.cb_history.specs.View.{message_in}
 use Rattle.cb_member.specs.declared.arrival.course.Course.{Course}
-use Rattle.cb_member.specs.declared.arrival.course.Course.TheVariants.{Early, Waits, Alone, LeadsOn, LetsGo}
+use Rattle.cb_member.specs.declared.arrival.course.Course.TheVariants.{Early, Waits, Alone, AllAlone, LeadsOn, LetsGo}
 use Rattle.cb_member.specs.declared.state.State.{State}
 use Rattle.cb_member.specs.Delivery.{IsSettled}
+use Rattle.cb_member.specs.Knowledge.{delivered_by}
 use Rattle.cb_member.specs.Passing.{message_at}
 use Rattle.cb_member.specs.State.{Keeps}
 use Rattle.cb_member.specs.Taking.{IsNextOf}
@@ -32,6 +33,7 @@ abbrev pub AreCopies : CastFields → Course → State → List Message → Type
 AreCopies c (Early spares) state copies = copies ≡ []
 AreCopies c (Waits time) state copies = copies ≡ []
 AreCopies c (Alone time) state copies = copies ≡ message_at c time ∷ []
+AreCopies c (AllAlone spare deliveries) state copies = copies ≡ delivered_by deliveries.items
 AreCopies c (LeadsOn time count) state copies = AreDeliveries c state copies
 AreCopies c (LetsGo spares count) state copies = AreDeliveries c state copies
 
@@ -40,6 +42,7 @@ abbrev pub JoinsEvents : CastFields → Course → List Event → List Event →
 JoinsEvents c (Early spares) before after = after ≡ before
 JoinsEvents c (Waits time) before after = after ≡ before
 JoinsEvents c (Alone time) before after = after ≡ before ++ Deliver (message_at c time) ∷ []
+JoinsEvents c (AllAlone spare deliveries) before after = after ≡ before ++ deliveries.items
 JoinsEvents c (LeadsOn time count) before after = Unit {0}
 JoinsEvents c (LetsGo spares count) before after = Unit {0}
 

@@ -1,11 +1,13 @@
 -- A cast of another member that carries one message and comes in order: it is expanded as soon as it is there. It is as if it had been kept and taken out.
 -- Where its message may be delivered, and nothing else then, it is as if it had been held and released.
-use Rattle.std.specs.Prelude.{◌≡◌, ℕ, ◌<◌, List, [], ◌∷◌, ◌++◌, length, Some, slice_get}
+-- A burst that comes in order goes the same way as a whole, where nothing is held and its first message may be delivered.
+use Rattle.std.specs.Prelude.{◌≡◌, ℕ, ◌<◌, List, [], ◌∷◌, ◌++◌, length, map, Some, slice_get, slice_set}
 use Rattle.std.specs.FinMap as fin
 use Rattle.cb_times.specs.Order.{field}
-use Rattle.cb_frames.specs.Fields.{load_bytes, CastFields, first_number}
+use Rattle.cb_frames.specs.Fields.{load_bytes, CastFields, Carried, first_number, messages_of}
 use Rattle.cb_delay.specs.declared.message.Message.{Message}
 use Rattle.cb_delay.specs.declared.message.Event.{Event}
+use Rattle.cb_delay.specs.declared.message.Event.TheVariants.{Deliver}
 use Rattle.cb_delay.specs.Queue.{Holds, IsDelayQueue}
 use Rattle.cb_delay.specs.Rule.{IsReady}
 use Rattle.cb_diffs.specs.Expansion.{IsGrown, time_of}
@@ -80,3 +82,22 @@ pub record DeliversAlone (message : Message) (old new : Delivery) (before after 
   pub held : Delivery
   pub holds : HoldsIt old message held
   pub drains : Drains held new before after
+
+-- ---- a whole burst
+
+-- a message of a burst whose first one has this time: it has the same but for its own number
+abbrev pub carried_at : List ℕ → Carried → Message
+carried_at time m = record { name = record { sender = m.sender; number = m.number }; time = slice_set time m.sender m.number; payload = m.payload }
+
+-- the deliveries of all its messages, in order
+abbrev pub deliveries_at : List ℕ → List Carried → List Event
+deliveries_at time ms = map (λ m. Deliver (carried_at time m)) ms
+
+abbrev pub burst_delivered : CastFields → List ℕ → List Event
+burst_delivered c time = deliveries_at time (messages_of c)
+
+-- with the burst among the facts all that is expanded was taken, as before
+abbrev pub TakesBurst : CastFields → Reception → Reception → Type 0
+TakesBurst c old new =
+    (seat : Identity) (facts : List Fact) → AreFactsOf seat (facts ++ CastReceived c ∷ [])
+    → HasReceivedAll seat facts old → HasReceivedAll seat (facts ++ CastReceived c ∷ []) new

@@ -3,20 +3,20 @@
 ghost use Rattle.std.specs.Prelude.{◌≡◌, ◌<◌, ◌+◌, true, None, IfOk, IfSome, IfNone, OnOk, OnSome, length};
 ghost use Rattle.std.specs.FinMap as fin;
 ghost use Rattle.cb_times.specs.Group.{IsGroupSize, IsWindow};
-ghost use Rattle.cb_diffs.specs.Expansion.{IsGrown, time_of};
+ghost use Rattle.cb_diffs.specs.Expansion.{Expands, IsGrown, time_of};
 ghost use Rattle.cb_diffs.specs.Expansion.{IsNext as IsNextCast};
 ghost use Rattle.cb_gaps.specs.Buffer.{IsNext, Takes};
-ghost use Rattle.cb_frames.specs.Fields.{cast_fields, unit_fields, first_number, last_number, messages_of};
+ghost use Rattle.cb_frames.specs.Fields.{burst_fields, cast_fields, unit_fields, first_number, last_number, messages_of};
 ghost use Rattle.cb_frames.specs.Carrying.{IsNumberedCast};
 ghost use Rattle.cb_member.specs.Reception.{IsNewReception, IsAlike, HasPlaceFor, spares_of};
 ghost use Rattle.cb_member.specs.Singles.{KeepsSingles, times_in};
 ghost use Rattle.cb_member.specs.Taking.{WouldExpand, CanKeep, KeepsCast, IsReceiving, ExpandsNext, HasNoNextOf, Tells};
-ghost use Rattle.cb_member.specs.Passing.{IsInOrder, TakesAt, TakesInOrder, message_at};
+ghost use Rattle.cb_member.specs.Passing.{IsInOrder, TakesAt, TakesBurst, TakesInOrder, message_at};
 
 use crate::singles::{Singles, Spares};
 use cb_delay::Message;
 use cb_diffs::Expander;
-use cb_frames::{Cast, Unit};
+use cb_frames::{Burst, Cast, Unit};
 use cb_gaps::Reorder;
 use cb_times::{Name, NoMemory, VectorTime};
 use std::alloc::Global;
@@ -93,6 +93,15 @@ impl Reception {
         self.buffers[cast.sender as usize].is_in_order(cast.number)
     }
 
+    /// Whether the burst is its sender's next one, and none of the sender's waits behind it.
+    pub fn is_next_burst(&self, burst: &Burst) -> bool
+        requires { burst.now.sender < length self.now.buffers.items }
+        ensures { result ≡ true
+            → IsInOrder burst.now.sender (first_number (burst_fields burst.now)) self.now }
+    {
+        self.buffers[burst.sender as usize].is_in_order(burst.first)
+    }
+
     /// The message of a cast of another member that carries just this one and comes in order, once its time was looked at. It is as if
     /// the cast were kept and taken out.
     #[inline(always)]
@@ -108,6 +117,21 @@ impl Reception {
             time,
             payload: cast.payload,
         }
+    }
+
+    /// Takes a burst of another member that comes in order, up to its last number: it is as if its singles were kept and taken out.
+    /// `spare` is for the time of its first message.
+    pub fn take_burst(&mut self, burst: &Burst, last: u32, spare: VectorTime)
+        requires numbered { IsNumberedCast (burst_fields burst.now) }
+        requires last { last ≡ last_number (burst_fields burst.now) }
+        requires in_order { IsInOrder burst.now.sender (first_number (burst_fields burst.now))
+            self.old }
+        requires next { IsNextCast self.old.expander (burst_fields burst.now) }
+        requires size { length spare ≡ length self.old.expander }
+        ensures { TakesBurst (burst_fields burst.now) self.old self.new }
+    {
+        self.buffers[burst.sender as usize].take_in_order(last);
+        drop(first_expanded(&mut self.expander, burst, spare));
     }
 
     /// The sender's next message, where its single is there and none is missing before it.
@@ -154,6 +178,19 @@ fn expanded(expander: &mut Expander, cast: Cast, mut spare: VectorTime) -> Messa
         time: spare,
         payload: cast.payload,
     }
+}
+
+/// The time of the first message of the sender's next burst, written over the spare.
+fn first_expanded(expander: &mut Expander, burst: &Burst, mut spare: VectorTime) -> VectorTime
+    requires numbered { IsNumberedCast (burst_fields burst.now) }
+    requires next { IsNextCast expander.old (burst_fields burst.now) }
+    requires size { length spare ≡ length expander.old }
+    ensures { Expands expander.old (burst_fields burst.now) result expander.new }
+{
+    let Ok(()) = expander.burst_into(burst, &mut spare) else {
+        unreachable!("it is the next one")
+    };
+    spare
 }
 
 /// The name of its first message.

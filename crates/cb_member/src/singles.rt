@@ -45,6 +45,17 @@ pub fn only_cast(unit: Unit) -> Cast
     }
 }
 
+/// The burst of a unit that carries several messages.
+pub fn only_burst(unit: Unit) -> Burst
+    requires { ¬ IsSingle (unit_fields unit) }
+    ensures { burst_fields result ≡ unit_fields unit }
+{
+    match unit {
+        Unit::Many(burst) => burst,
+        Unit::One(_) => unreachable!("it carries several messages"),
+    }
+}
+
 impl Singles {
     pub fn of(unit: Unit) -> Singles
         ensures { left_in result ≡ singles_of (unit_fields unit) }

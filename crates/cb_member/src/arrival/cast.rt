@@ -11,7 +11,7 @@ ghost use Rattle.cb_history.specs.Answers.{are_members};
 ghost use Rattle.cb_history.specs.Load.{FitsFrame};
 ghost use Rattle.cb_member.specs.State.{IsState};
 ghost use Rattle.cb_member.specs.Arriving.{own_verdict, FollowsFrom, JudgesCast, DeliversWith};
-ghost use Rattle.cb_member.specs.Course.{CanGo, DeliversWhatIsReady, GoesAlone, HasRoomToDeliver, HasTime, IsEarly, MustWait, TakesAndDelivers, TakesAndWaits, most};
+ghost use Rattle.cb_member.specs.Course.{CanGo, DeliversWhatIsReady, GoesAllAlone, GoesAlone, HasRoomToDeliver, HasTime, IsEarly, MustWait, TakesAndDelivers, TakesAndWaits, most};
 ghost use Rattle.cb_member.specs.Foreseen.{JoinsEvents};
 ghost use Rattle.cb_member.specs.Passing.{HoldsIt, message_at};
 ghost use Rattle.cb_member.specs.Singles.{times_in};
@@ -22,7 +22,7 @@ use crate::arrival::are_fields;
 use crate::arrival::course::Course;
 use crate::delivery::hold_next;
 use crate::relaying::relay;
-use crate::singles::{Spares, only_cast};
+use crate::singles::{Spares, only_burst, only_cast};
 use crate::state::State;
 use bytes::Bytes;
 use cb_delay::Event;
@@ -98,6 +98,9 @@ impl State {
             Course::Early { spares } => self.take_early(unit, spares),
             Course::Waits { time } => self.let_wait(only_cast(unit), time),
             Course::Alone { time } => self.deliver_alone(only_cast(unit), time, events),
+            Course::AllAlone { spare, deliveries } => {
+                self.deliver_all(unit, spare, deliveries, events);
+            }
             Course::LeadsOn { time, most: _ } => self.lead_on(only_cast(unit), time, events),
             Course::LetsGo { spares, most: _ } => self.let_go(unit, spares, events),
         }
@@ -150,6 +153,31 @@ impl State {
         self.delivery.deliver_alone(message, events);
     }
 
+    /// The burst came in order where nothing waits, and is delivered as a whole. What its times say of other senders was heard of, as
+    /// with a cast that is delivered alone.
+    #[inline(never)]
+    fn deliver_all(
+        &mut self,
+        unit: Unit,
+        spare: VectorTime,
+        deliveries: Vec<Event>,
+        events: &mut Vec<Event>,
+    )
+        requires all { GoesAllAlone (unit_fields unit) spare deliveries.items self.old }
+        requires room { vec_len events.old + vec_len deliveries ≤ vec_capacity events.old }
+        ensures takes { TakesAndDelivers (unit_fields unit) self.old self.new events.old.items
+            events.new.items }
+        ensures joins { events.new.items ≡ events.old.items ++ deliveries.items }
+        ensures many { vec_len events.new ≡ vec_len events.old + vec_len deliveries }
+    {
+        let (sender, last) = (unit.sender(), unit.last());
+        let burst = only_burst(unit);
+        self.reception.take_burst(&burst, last, spare);
+        self.knowledge.hear(sender, last);
+        self.delivery.time.set(sender, last);
+        join_events(events, deliveries);
+    }
+
     /// It came in order, and others may go with it.
     #[inline(never)]
     fn lead_on(&mut self, cast: Cast, time: VectorTime, events: &mut Vec<Event>)
@@ -171,6 +199,17 @@ impl State {
         self.take_in(unit, spares);
         self.delivery.drain(events);
     }
+}
+
+/// The deliveries join the events, which have room for them.
+fn join_events(events: &mut Vec<Event>, mut deliveries: Vec<Event>)
+    requires { vec_len events.old + vec_len deliveries ≤ vec_capacity events.old }
+    ensures joins { events.new.items ≡ events.old.items ++ deliveries.items }
+    ensures many { vec_len events.new ≡ vec_len events.old + vec_len deliveries }
+{
+    let Ok(()) = events.append(&mut deliveries) else {
+        unreachable!("there is room")
+    };
 }
 
 /// A unit of the member itself was cast before, or it never was.

@@ -1,38 +1,59 @@
-//! The course of a received cast or burst: one of five ways, told before anything changes, with what is made for it.
+//! The course of a received cast or burst: one of six ways, told before anything changes, with what is made for it.
 //!
-//! `LetsGo` would do for all of them. The others are for what comes most, and cost less; those in order are for a single cast.
+//! `LetsGo` would do for all of them. The others are for what comes most, and cost less.
 
-ghost use Rattle.std.specs.Prelude.{◌≡◌, ◌≢◌, ◌≤◌, ◌+◌, ◌↔◌, All, IfOk, IsTrue, length};
+ghost use Rattle.std.specs.Prelude.{◌≡◌, ◌≢◌, ◌<◌, ◌≤◌, ◌+◌, ◌↔◌, All, IfOk, IfSome, IsTrue, length};
 ghost use Rattle.std.specs.FinMap as map;
 ghost use Rattle.cb_times.specs.Order.{field};
-ghost use Rattle.cb_frames.specs.Fields.{cast_fields, unit_fields, first_number};
+ghost use Rattle.cb_frames.specs.Carrying.{IsNumberedCast};
+ghost use Rattle.cb_frames.specs.Fields.{burst_fields, cast_fields, unit_fields, first_number};
 ghost use Rattle.cb_delay.specs.Rule.{IsReady};
-ghost use Rattle.cb_diffs.specs.Expansion.{AreMembers};
+ghost use Rattle.cb_diffs.specs.Expansion.{AreMembers, IsToldBy};
 ghost use Rattle.cb_member.specs.Singles.{AreSparesFor, times_in};
 ghost use Rattle.cb_member.specs.State.{IsAlike};
 ghost use Rattle.cb_member.specs.Taking.{CanFollow};
-ghost use Rattle.cb_member.specs.Passing.{IsInOrder};
+ghost use Rattle.cb_member.specs.Passing.{IsInOrder, burst_delivered};
 ghost use Rattle.cb_member.specs.Course.{CanGo, HasTime, most};
 
 use crate::singles::Spares;
 use crate::state::State;
-use cb_frames::{Cast, Unit};
-use cb_times::{NoMemory, VectorTime};
-use std::alloc::AllocError;
+use crate::text::another;
+use bytes::Bytes;
+use cb_delay::{Event, Message, is_ready};
+use cb_frames::{Burst, Cast, Unit};
+use cb_times::{Name, NoMemory, VectorTime};
+use std::alloc::{AllocError, Global};
 
 /// What a unit does that is taken, and what is made for it, so that nothing then takes memory.
 #[derive(Drop)]
 pub enum Course {
     /// It comes before its turn, and waits for the casts before it; nothing is delivered. `spares` are for the times of its messages.
-    Early { spares: Spares },
+    Early {
+        spares: Spares,
+    },
     /// It comes in order, and waits for the delay rule; nothing is delivered.
-    Waits { time: VectorTime },
+    Waits {
+        time: VectorTime,
+    },
     /// It comes in order, and is delivered alone.
-    Alone { time: VectorTime },
+    Alone {
+        time: VectorTime,
+    },
+    /// A burst that comes in order where nothing waits: it is delivered as a whole. `spare` is for the time of its first message.
+    AllAlone {
+        spare: VectorTime,
+        deliveries: Vec<Event>,
+    },
     /// It comes in order, and may let others go: at most this many messages are delivered.
-    LeadsOn { time: VectorTime, most: usize },
+    LeadsOn {
+        time: VectorTime,
+        most: usize,
+    },
     /// It may let others go: at most this many messages are delivered.
-    LetsGo { spares: Spares, most: usize },
+    LetsGo {
+        spares: Spares,
+        most: usize,
+    },
 }
 
 impl Course {
@@ -43,6 +64,7 @@ impl Course {
         match self {
             Course::Early { .. } | Course::Waits { .. } => 0,
             Course::Alone { .. } => 1,
+            Course::AllAlone { deliveries, .. } => deliveries.len(),
             Course::LeadsOn { most, .. } => *most,
             Course::LetsGo { most, .. } => *most,
         }
@@ -63,7 +85,10 @@ impl State {
                 }
                 self.course_of_others(unit)
             }
-            Unit::Many(_burst) => self.course_of_others(unit),
+            Unit::Many(burst) => match self.course_of_burst(burst)? {
+                Some(course) => Ok(course),
+                None => self.course_of_others(unit),
+            },
         }
     }
 
@@ -96,6 +121,31 @@ impl State {
         let counts = &self.delivery.time;
         counts.get(cast.sender).checked_add(1) == Some(cast.number)
             && changes_are_reached(cast, time.as_slice(), counts.as_slice())
+    }
+
+    /// The course of a burst that is delivered as a whole.
+    #[inline(never)]
+    fn course_of_burst(&self, burst: &Burst) -> Result<Option<Course>, NoMemory>
+        requires { CanFollow (burst_fields burst.now) self.now }
+        ensures { IfOk result (λ course. IfSome course (λ course.
+            CanGo (burst_fields burst.now) course self.now)) }
+    {
+        if self.delivery.queue.len() > 0 {
+            return Ok(None);
+        }
+        if !self.reception.is_next_burst(burst) {
+            return Ok(None);
+        }
+        let ahead = heading(burst)?;
+        let time = self.reception.expander.time_ahead(&ahead)?;
+        if !is_ready(burst.sender, &time, &self.delivery.time) {
+            return Ok(None);
+        }
+        let deliveries = deliveries_of(self.alloc, burst, &time)?;
+        Ok(Some(Course::AllAlone {
+            spare: time,
+            deliveries,
+        }))
     }
 
     #[inline(never)]
@@ -137,6 +187,44 @@ impl State {
             None => Err(AllocError),
         }
     }
+}
+
+/// A cast with the changes of a burst. The time of the burst's first message depends on no more than it says.
+fn heading(burst: &Burst) -> Result<Cast, NoMemory>
+    ensures { IfOk result (λ cast. IsToldBy (cast_fields cast) burst.now.sender burst.now.first
+        burst.now.changes.items) }
+{
+    Ok(Cast {
+        group: burst.group,
+        sender: burst.sender,
+        number: burst.first,
+        changes: Vec::from_slice(*burst.changes.allocator(), &burst.changes)?,
+        payload: Bytes::new(),
+    })
+}
+
+/// What is delivered of a burst whose first message has this time.
+fn deliveries_of(alloc: Global, burst: &Burst, time: &VectorTime) -> Result<Vec<Event>, NoMemory>
+    requires numbered { IsNumberedCast (burst_fields burst.now) }
+    requires member { burst.now.sender < length time.now }
+    ensures { IfOk result (λ deliveries. deliveries.items
+        ≡ burst_delivered (burst_fields burst.now) time.now) }
+{
+    let mut deliveries = Vec::with_capacity(alloc, burst.payloads.len())?;
+    for i in 0..burst.payloads.len() {
+        let number = burst.first + i as u32;
+        let mut stamp = time.copy()?;
+        stamp.set(burst.sender, number);
+        deliveries.push(Event::Deliver(Message {
+            name: Name {
+                sender: burst.sender,
+                number,
+            },
+            time: stamp,
+            payload: another(&burst.payloads[i])?,
+        }))?;
+    }
+    Ok(deliveries)
 }
 
 /// Whether of the fields of other members that the cast changes none is above what is delivered.

@@ -1,10 +1,11 @@
 //! Copies of what a cast or a burst will deliver, for a caller who wants messages of its own.
 
-ghost use Rattle.std.specs.Prelude.{◌≡◌, ◌∷◌, [], true, IfOk};
+ghost use Rattle.std.specs.Prelude.{◌≡◌, ◌++◌, ◌∷◌, [], true, IfOk, OnOk};
 ghost use Rattle.cb_frames.specs.Fields.{cast_fields, unit_fields};
 ghost use Rattle.cb_history.specs.Singles.{IsSingle};
 ghost use Rattle.cb_member.specs.Course.{CanGo};
 ghost use Rattle.cb_member.specs.Foreseen.{AreCopies, AreDeliveries, AreExpandedBy, ComeOutOf, IsTakingOut, OnlySettles};
+ghost use Rattle.cb_member.specs.Knowledge.{delivered_by};
 ghost use Rattle.cb_member.specs.Passing.{message_at};
 ghost use Rattle.cb_member.specs.Taking.{CanFollow};
 
@@ -12,7 +13,7 @@ use crate::arrival::course::Course;
 use crate::reception::{name_of, take_single};
 use crate::singles::Singles;
 use crate::state::State;
-use cb_delay::Message;
+use cb_delay::{Event, Message};
 use cb_diffs::grow_by;
 use cb_frames::{Cast, Unit};
 use cb_gaps::Reorder;
@@ -51,6 +52,7 @@ impl State {
         match course {
             Course::Early { .. } | Course::Waits { .. } => Ok(Vec::new(self.alloc)),
             Course::Alone { time } => alone(self.alloc, unit, time),
+            Course::AllAlone { deliveries, .. } => copies_of(self.alloc, deliveries),
             Course::LeadsOn { .. } | Course::LetsGo { .. } => self.deliveries_of(unit),
         }
     }
@@ -130,4 +132,26 @@ fn alone(alloc: Global, unit: &Unit, time: &VectorTime) -> Result<Vec<Message>, 
     let mut copies = Vec::with_capacity(alloc, 1)?;
     copies.push(message)?;
     Ok(copies)
+}
+
+/// Copies of the messages that are delivered by these events.
+fn copies_of(alloc: Global, events: &[Event]) -> Result<Vec<Message>, NoMemory>
+    ensures { IfOk result (λ copies. copies.items ≡ delivered_by events.now) }
+{
+    let mut copies = Vec::with_capacity(alloc, events.len())?;
+    for event in events {
+        join_copy(&mut copies, event)?;
+    }
+    Ok(copies)
+}
+
+/// A copy of what the event delivers joins the copies.
+fn join_copy(copies: &mut Vec<Message>, event: &Event) -> Result<(), NoMemory>
+    ensures { OnOk result (copies.new.items
+        ≡ copies.old.items ++ delivered_by (event.now ∷ [])) }
+{
+    if let Event::Deliver(message) = event {
+        copies.push(message.copy()?)?;
+    }
+    Ok(())
 }

@@ -23,6 +23,7 @@ enum Way {
     Early,
     Waits,
     Alone,
+    AllAlone,
     LeadsOn,
     LetsGo,
     /// It is no cast that is new.
@@ -52,9 +53,10 @@ fn a_cast_takes_the_cheapest_course(rt: HostRuntime) {
         (&[ANSWER], SECOND_ANSWER, Way::Waits),
         // it closes a gap
         (&[SECOND], FIRST, Way::LetsGo),
-        // a burst is never expanded at once
-        (&[], GREETING, Way::LetsGo),
+        // a burst goes as a whole where nothing waits, and else is never expanded at once
+        (&[], GREETING, Way::AllAlone),
         (&[], ANSWERS, Way::LetsGo),
+        (&[ANSWER], GREETING, Way::LetsGo),
         (&[], LATER, Way::Early),
         (&[FIRST], GREETING, Way::Nowhere),
         (&[FIRST], FIRST, Way::Nowhere),
@@ -112,6 +114,7 @@ fn named(course: &Course) -> Way {
         Course::Early { .. } => Way::Early,
         Course::Waits { .. } => Way::Waits,
         Course::Alone { .. } => Way::Alone,
+        Course::AllAlone { .. } => Way::AllAlone,
         Course::LeadsOn { .. } => Way::LeadsOn,
         Course::LetsGo { .. } => Way::LetsGo,
     }

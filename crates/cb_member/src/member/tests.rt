@@ -54,6 +54,28 @@ fn a_burst_is_judged_as_a_whole_and_delivered_one_by_one(rt: HostRuntime) {
             ],
             2,
         ),
+        // each comes in order; what follows goes on from the last message
+        (
+            2,
+            &[
+                (
+                    GREETING,
+                    Does::Delivers(&[(0, 1, [1, 0, 0]), (0, 2, [2, 0, 0])]),
+                ),
+                (
+                    ANSWERS,
+                    Does::Delivers(&[(1, 1, [2, 1, 0]), (1, 2, [2, 2, 0])]),
+                ),
+                (
+                    LATER,
+                    Does::Delivers(&[(0, 3, [3, 0, 0]), (0, 4, [4, 0, 0])]),
+                ),
+                (THANKS, Does::Delivers(&[(1, 3, [4, 3, 0])])),
+                (GREETING, Does::Repeats),
+                (ANSWERS, Does::Repeats),
+            ],
+            4,
+        ),
         // its last number counts; some of its messages are kept, and others not
         (
             2,
@@ -256,6 +278,9 @@ fn changes(answer: Result<Arrival, ArriveRefusal>) -> bool {
         Ok(Arrival::Repeat) | Err(_) => false,
     }
 }
+
+/// The third message of member 1, which had delivered two more of member 0.
+const THANKS: &[u8] = b"\x11\x07\x01\x03\x01\x00\x02\x02ok";
 
 /// Bursts and casts of messages that say nothing: the fourth and the fifth message of member 0, its first two, each of them alone, the
 /// first two of member 1, and one of member 2 that counts the first one of member 1.
