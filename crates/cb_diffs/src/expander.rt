@@ -213,6 +213,7 @@ impl Expander {
     }
 
     /// The time of the sender's next cast, which is not taken by that: `take` does it. The only error is out of memory.
+    #[inline(always)]
     pub fn time_ahead(&self, cast: &Cast) -> Result<VectorTime, NoMemory>
         requires next { IsNext self.now (cast_fields cast.now) }
         ensures time { IfOk result
@@ -223,6 +224,7 @@ impl Expander {
     }
 
     /// The time of the first message of the sender's next frame. The only error is out of memory.
+    #[inline(always)]
     fn grown(&self, sender: u32, first: u32, changes: &[Change]) -> Result<VectorTime, NoMemory>
         requires members { AreMembersOf (length self.now) sender changes.now }
         ensures time { (c : CastFields) → IsToldBy c sender first changes.now
