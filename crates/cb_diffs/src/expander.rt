@@ -223,6 +223,17 @@ impl Expander {
         self.grown(cast.sender, cast.number, &cast.changes)
     }
 
+    /// The time of the first message of the sender's next burst, which is not taken by that: `take_burst` does it. The only error is out
+    /// of memory.
+    pub fn burst_ahead(&self, burst: &Burst) -> Result<VectorTime, NoMemory>
+        requires next { IsNext self.now (burst_fields burst.now) }
+        ensures time { IfOk result
+            (IsGrown (time_of self.now burst.now.sender) (burst_fields burst.now)) }
+        ensures size { IfOk result (λ time. length time ≡ length self.now) }
+    {
+        self.grown(burst.sender, burst.first, &burst.changes)
+    }
+
     /// The time of the first message of the sender's next frame. The only error is out of memory.
     #[inline(always)]
     fn grown(&self, sender: u32, first: u32, changes: &[Change]) -> Result<VectorTime, NoMemory>
@@ -259,8 +270,8 @@ impl Expander {
         self.times[cast.sender as usize].copy_from(time);
     }
 
-    /// Takes the sender's next burst, whose first message has this time.
-    fn take_burst(&mut self, burst: &Burst, time: &VectorTime)
+    /// Takes the sender's next burst, whose first message has this time: it is as if it were expanded.
+    pub fn take_burst(&mut self, burst: &Burst, time: &VectorTime)
         requires some { IsSome (burst_fields burst.now).load }
         requires last { last_number (burst_fields burst.now) ≤ greatest }
         requires next { IsNext self.old (burst_fields burst.now) }

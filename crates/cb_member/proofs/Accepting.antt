@@ -90,7 +90,7 @@ pub copies_are : (c : CastFields) (course : Course) (state : State) (facts : Lis
 copies_are c (Early spare) state facts copies before after are keeps copied joins events = copied ∙ sym (none_of before after _ joins events)
 copies_are c (Waits time) state facts copies before after are keeps copied joins events = copied ∙ sym (none_of before after _ joins events)
 copies_are c (Alone time) state facts copies before after are keeps copied joins events = copied ∙ sym (one_of before after _ _ joins events)
-copies_are c (AllAlone spare deliveries) state facts copies before after are keeps copied joins events = copied ∙ sym (all_of before after deliveries.items _ joins events)
+copies_are c (AllAlone time deliveries) state facts copies before after are keeps copied joins events = copied ∙ sym (all_of before after deliveries.items _ joins events)
 copies_are c (LeadsOn time count) state facts copies before after are keeps copied joins events = copied facts are keeps
 copies_are c (LetsGo spare count) state facts copies before after are keeps copied joins events = copied facts are keeps
 

@@ -54,7 +54,7 @@ pub can_follow : (c : CastFields) (course : Course) (state : State) → CanGo c 
 can_follow c (Early spare) state can = can.can.can
 can_follow c (Waiting time) state can = can.has_time.can
 can_follow c (Alone time) state can = can.has_time.can
-can_follow c (AllAlone spare deliveries) state can = can.can
+can_follow c (AllAlone time deliveries) state can = can.can
 can_follow c (LeadsOn time count) state can = can.0.can
 can_follow c (LetsGo spare count) state can = can.0.can
 

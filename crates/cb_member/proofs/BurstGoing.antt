@@ -12,7 +12,7 @@ use Rattle.cb_frames.specs.Fields.{IsSome, CastFields, Carried, burst_fields, gr
 use Rattle.cb_frames.proofs.Carried.{carried_in_order, carried_up_to_the_last, carries_some, first_is_number}
 use Rattle.cb_delay.specs.declared.message.Event.{Event}
 use Rattle.cb_delay.specs.Rule.{IsReady}
-use Rattle.cb_diffs.specs.Expansion.{expanded_field, greatest, time_of, IsGrown, IsNext, IsToldBy}
+use Rattle.cb_diffs.specs.Expansion.{expanded_field, greatest, time_of, IsGrown, IsNext}
 use Rattle.cb_history.specs.Facts.{Fact, CastReceived, casts_in, numbers_between}
 use Rattle.cb_history.specs.View.{view, message_in}
 use Rattle.cb_history.specs.Known.{greatest_of, known, expanded_count}
@@ -61,47 +61,25 @@ module _ (c : CastFields) (old : State) (can : CanFollow c old) (in_order : IsIn
       burst_is_next old.seat can.facts c can.legal old.reception.expander (its_kept_time c old.reception in_order old.seat can.facts can.legal can.keeps.received)
       (comes_behind c old.reception in_order old.seat can.facts can.legal can.keeps.received)
 
--- what its heading is and has, it is and has
-pub told_is_next : (c d : CastFields) (times : List (List ℕ)) → IsToldBy d c.sender c.number c.changes → IsNext times c → IsNext times d
-told_is_next c d times told next =
-    let sender = told.sender_is in
-    record {
-      members = record {
-        sender = subst (λ (i : ℕ). i < length times) (sym sender) next.members.sender;
-        changes = subst (λ (ds : List Change). All (λ (x : Change). x.field < length times) ds) (sym told.changes_are) next.members.changes;
-      };
-      next = first_is_number d ∙ told.first_is ∙ sym (first_is_number c) ∙ next.next ∙ ap (λ (i : ℕ). field (time_of times i) i + 1) (sym sender);
-    }
-
-pub told_is_grown : (c d : CastFields) (times : List (List ℕ)) (time : List ℕ) → IsToldBy d c.sender c.number c.changes → IsGrown (time_of times d.sender) d time → IsGrown (time_of times c.sender) c time
-told_is_grown c d times time told grown =
-    let sender = told.sender_is in
-    let of_sender = subst (λ (i : ℕ). IsGrown (time_of times i) d time) sender grown in
-    record {
-      size = of_sender.size;
-      own = ap (field time) (sym sender) ∙ of_sender.own ∙ first_is_number d ∙ told.first_is ∙ sym (first_is_number c);
-      others = λ k lt ne. of_sender.others k lt (λ e. ne (e ∙ sender)) ∙ ap (λ (ds : List Change). min greatest (field (time_of times c.sender) k + growth_in ds k)) told.changes_are;
-    }
-
 pub goes_as_whole : (burst : Burst) (time : List ℕ) (deliveries : List Event) (state : State) → CanFollow (burst_fields burst) state → IsInOrder burst.sender (first_number (burst_fields burst)) state.reception
-    → fin.len state.delivery.queue.held ≡ 0 → IsGrown (time_of state.reception.expander burst.sender) (burst_fields burst) time → length time ≡ length state.reception.expander
+    → fin.len state.delivery.queue.held ≡ 0 → IsGrown (time_of state.reception.expander burst.sender) (burst_fields burst) time
     → IsReady burst.sender (field time) (field state.delivery.time) → deliveries ≡ burst_delivered (burst_fields burst) time → GoesAllAlone (burst_fields burst) time deliveries state
-goes_as_whole burst time deliveries state can in_order none grown long ready are =
-    record { can = can; many = λ single. single; in_order = in_order; none_held = none; time = time; grown = grown; ready = ready; fits = long; are_all = are }
+goes_as_whole burst time deliveries state can in_order none grown ready are =
+    record { can = can; many = λ single. single; in_order = in_order; none_held = none; grown = grown; ready = ready; are_all = are }
 
 -- ---- it is taken in
 
-module _ (c : CastFields) (spare : List ℕ) (deliveries : List Event) (old : State) (goes : GoesAllAlone c spare deliveries old) (reception : Reception) (known_then : Knowledge)
+module _ (c : CastFields) (time : List ℕ) (deliveries : List Event) (old : State) (goes : GoesAllAlone c time deliveries old) (reception : Reception) (known_then : Knowledge)
     (takes : TakesBurst c old.reception reception) (hears : Hears c.sender (last_number c) old.knowledge known_then) where
   abbrev can : CanFollow c old
   can = goes.can
 
   -- as the state would be with all messages held
   abbrev waits : Delivery
-  waits = record old.delivery { queue = with_all goes.time old.delivery.queue (messages_of c) }
+  waits = record old.delivery { queue = with_all time old.delivery.queue (messages_of c) }
 
   abbrev taken_in : State
-  taken_in = record old { delivery = record old.delivery { queue = with_all goes.time old.delivery.queue (messages_of c) }; reception = reception; knowledge = known_then }
+  taken_in = record old { delivery = record old.delivery { queue = with_all time old.delivery.queue (messages_of c) }; reception = reception; knowledge = known_then }
 
   some : IsSome c.load
   some = (last_fact_is_a_step old.seat can.facts (CastReceived c) can.legal).load.some
@@ -112,9 +90,9 @@ module _ (c : CastFields) (spare : List ℕ) (deliveries : List Event) (old : St
   only : OnlyTakesIn old taken_in
   only = record { seat = refl; time = refl; acks = hears.acks; sending = refl; relays = refl }
 
-  long : length goes.time ≡ old.seat.group.size
+  long : length time ≡ old.seat.group.size
   long = time_long old.seat can.facts c can.legal old.reception.expander (its_kept_time c old.reception goes.in_order old.seat can.facts can.legal can.keeps.received)
-      (comes_behind c old.reception goes.in_order old.seat can.facts can.legal can.keeps.received) goes.time goes.grown
+      (comes_behind c old.reception goes.in_order old.seat can.facts can.legal can.keeps.received) time goes.grown
 
   -- on some facts that are kept
   module _ (facts : List Fact) (are : AreFactsOf old.seat (facts ++ CastReceived c ∷ [])) (keeps : Keeps facts old) where
@@ -130,15 +108,15 @@ module _ (c : CastFields) (spare : List ℕ) (deliveries : List Event) (old : St
     come_out : expanded_count (casts_in (facts ++ CastReceived c ∷ [])) c.sender ≡ last_number c
     come_out = all_come_out c old.reception goes.in_order old.seat facts are keeps.received
 
-    told : (m : Carried) → IsIn m (messages_of c) → carried_at goes.time m ≡ message_in old.seat.group.size (casts_in (facts ++ CastReceived c ∷ [])) m
-    told = burst_message old.seat facts c are old.reception.expander (its_kept_time c old.reception goes.in_order old.seat facts are keeps.received) behind goes.time goes.grown
+    told : (m : Carried) → IsIn m (messages_of c) → carried_at time m ≡ message_in old.seat.group.size (casts_in (facts ++ CastReceived c ∷ [])) m
+    told = burst_message old.seat facts c are old.reception.expander (its_kept_time c old.reception goes.in_order old.seat facts are keeps.received) behind time goes.grown
 
     -- the time of the message of this number
-    told_field : (n i : ℕ) → first_number c ≤ n → n ≤ last_number c → i < old.seat.group.size → expanded_field (casts_in facts ++ c ∷ []) c.sender n i ≡ field (set goes.time c.sender n) i
+    told_field : (n i : ℕ) → first_number c ≤ n → n ≤ last_number c → i < old.seat.group.size → expanded_field (casts_in facts ++ c ∷ []) c.sender n i ≡ field (set time c.sender n) i
     told_field n i from upto lt =
         ap (λ (cs : List CastFields). expanded_field cs c.sender n i) (sym (casts_in-append facts (CastReceived c)))
         ∙ sym (in_field old.seat.group.size (expanded_field casts c.sender n) i lt)
-        ∙ ap (λ (t : List ℕ). field t i) (sym (burst_time old.seat facts c are old.reception.expander (its_kept_time c old.reception goes.in_order old.seat facts are keeps.received) behind goes.time goes.grown n from upto))
+        ∙ ap (λ (t : List ℕ). field t i) (sym (burst_time old.seat facts c are old.reception.expander (its_kept_time c old.reception goes.in_order old.seat facts are keeps.received) behind time goes.grown n from upto))
 
     heard_number : (i : ℕ) → i < old.seat.group.size → i ≢ old.seat.me → field known_then.known i ≡ max (known facts i) (cond (eqb c.sender i) (last_number c) 0)
     heard_number i lt other = ap (λ (ns : List ℕ). field ns i) hears.known
@@ -150,13 +128,13 @@ module _ (c : CastFields) (spare : List ℕ) (deliveries : List Event) (old : St
         let told_so = told_field n i from upto lt in
         elim (cases_eq i c.sender) [
           | inl e ↦
-              let stamped : field (set goes.time c.sender n) i ≡ n = ap (field (set goes.time c.sender n)) e ∙ get_or-set_same goes.time c.sender n 0 (omega (arith, long, of_member old.seat facts c are)) in
+              let stamped : field (set time c.sender n) i ≡ n = ap (field (set time c.sender n)) e ∙ get_or-set_same time c.sender n 0 (omega (arith, long, of_member old.seat facts c are)) in
               let last : cond (eqb c.sender i) (last_number c) 0 ≡ last_number c = rw (eq-eqb c.sender i (sym e)) refl in
               let heard = heard_number i lt other in
               omega (arith, told_so, stamped, last, heard, upto)
           | inr ne ↦
-              let stamped : field (set goes.time c.sender n) i ≡ field goes.time i = get_or-set_other goes.time c.sender i n 0 ne in
-              let few = upto_the_max (field known_then.known i) (field goes.time i) (ready_is_heard c old known_then goes.time can hears goes.grown.own goes.ready i other) in
+              let stamped : field (set time c.sender n) i ≡ field time i = get_or-set_other time c.sender i n 0 ne in
+              let few = upto_the_max (field known_then.known i) (field time i) (ready_is_heard c old known_then time can hears goes.grown.own goes.ready i other) in
               omega (arith, told_so, stamped, few)
         ]
 
@@ -176,12 +154,12 @@ module _ (c : CastFields) (spare : List ℕ) (deliveries : List Event) (old : St
 
     all_held : HoldsTakenOf old.seat.group.size (casts_in (facts ++ CastReceived c ∷ [])) (view old.seat.group.size facts) c.sender (expanded_count (casts_in (facts ++ CastReceived c ∷ [])) c.sender) waits.queue
     all_held = subst (λ (n : ℕ). HoldsTakenOf old.seat.group.size casts (view old.seat.group.size facts) c.sender n waits.queue) as_many
-        (holds_all old.seat facts c are goes.time told come_out old.delivery.queue low (messages_of c) row (λ m there. there) (omega arith)
+        (holds_all old.seat facts c are time told come_out old.delivery.queue low (messages_of c) row (λ m there. there) (omega arith)
         (cast_waits_for_its_turn old.seat facts c old.delivery.queue are keeps.delivered.waits.queue))
 
     held_more : HoldsMore (expanded_count (casts_in (facts ++ CastReceived c ∷ [])) c.sender - expanded_count (casts_in facts) c.sender) old taken_in
     held_more =
-        let more = put_more goes.time old.delivery.queue.held (messages_of c) c.sender (low + 1) goes.none_held row in
+        let more = put_more time old.delivery.queue.held (messages_of c) c.sender (low + 1) goes.none_held row in
         omega (arith, more, as_many)
 
     takes_all : TakesIn facts c (expanded_count (casts_in (facts ++ CastReceived c ∷ [])) c.sender) taken_in
@@ -213,11 +191,11 @@ module _ (c : CastFields) (spare : List ℕ) (deliveries : List Event) (old : St
   pub goes_all : (before : List Event) → TakesAndDelivers c old (record old { delivery = record old.delivery { time = set old.delivery.time c.sender (last_number c) }; reception = reception; knowledge = known_then }) before (before ++ deliveries)
   goes_all before =
       let count : field old.delivery.time c.sender + length (messages_of c) ≡ last_number c = omega (arith, starts_behind, carried_up_to_the_last c some) in
-      let drains = all_drain goes.time old.delivery c.sender (sender_is_counted c old can) (long ∙ sym (time_is_long c old can)) goes.ready.others goes.none_held (messages_of c) before
+      let drains = all_drain time old.delivery c.sender (sender_is_counted c old can) (long ∙ sym (time_is_long c old can)) goes.ready.others goes.none_held (messages_of c) before
       (subst (λ (n : ℕ). AreNumberedFrom c.sender n (messages_of c)) (sym starts_behind) (carried_in_order c)) in
       record {
         waits = waits;
         takes_in = takes_it;
         drains = subst (λ (events : List Event). Drains waits (record old.delivery { time = set old.delivery.time c.sender (last_number c) }) before (before ++ events)) (sym goes.are_all)
-            (subst (λ (n : ℕ). Drains waits (record old.delivery { time = set old.delivery.time c.sender n }) before (before ++ burst_delivered c goes.time)) count drains);
+            (subst (λ (n : ℕ). Drains waits (record old.delivery { time = set old.delivery.time c.sender n }) before (before ++ burst_delivered c time)) count drains);
       }

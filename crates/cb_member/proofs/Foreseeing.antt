@@ -384,15 +384,13 @@ module _ (c : CastFields) (old : State) (d : Delivery) (settled : IsSettled old.
     ready = subst (λ (now : List ℕ). IsReady c.sender (field time) (field now)) (sym settled.time) can.ready;
     leaves = leaves_alike c.sender old.delivery d settled can.leaves;
   }
-  can_go_then (AllAlone spare deliveries) can = record {
+  can_go_then (AllAlone time deliveries) can = record {
     can = can_follow_alike c old _ alike can.can;
     many = can.many;
     in_order = can.in_order;
     none_held = ap fin.len settled.queue.now_held ∙ can.none_held;
-    time = can.time;
     grown = can.grown;
-    ready = subst (λ (now : List ℕ). IsReady c.sender (field can.time) (field now)) (sym settled.time) can.ready;
-    fits = can.fits;
+    ready = subst (λ (now : List ℕ). IsReady c.sender (field time) (field now)) (sym settled.time) can.ready;
     are_all = can.are_all;
   }
   can_go_then (LeadsOn time count) can = (has_time_alike c time old _ alike can.0, holds_alike c count old _ alike can.1)
@@ -411,7 +409,7 @@ pub copies_settled : (c : CastFields) (course : Course) (old new : State) (copie
 copies_settled c (Early spares) old new copies same are = are
 copies_settled c (Waits time) old new copies same are = are
 copies_settled c (Alone time) old new copies same are = are
-copies_settled c (AllAlone spare deliveries) old new copies same are = are
+copies_settled c (AllAlone time deliveries) old new copies same are = are
 copies_settled c (LeadsOn time count) old new copies same are = deliveries_settled c old new copies same are
 copies_settled c (LetsGo spares count) old new copies same are = deliveries_settled c old new copies same are
 

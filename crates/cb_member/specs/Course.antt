@@ -28,7 +28,7 @@ abbrev pub most : Course → ℕ
 most (Early spares) = 0
 most (Waits time) = 0
 most (Alone time) = 1
-most (AllAlone spare deliveries) = vec_len deliveries
+most (AllAlone time deliveries) = vec_len deliveries
 most (LeadsOn time count) = count
 most (LetsGo spares count) = count
 
@@ -64,16 +64,14 @@ pub record GoesAlone (c : CastFields) (time : List ℕ) (state : State) : Type 0
   pub ready : IsReady c.sender (field time) (field state.delivery.time)
   pub leaves : LeavesWaiting c.sender state.delivery
 
--- it is a burst that comes in order, nothing is held, its first message may be delivered, and these are all of its deliveries
-pub record GoesAllAlone (c : CastFields) (spare : List ℕ) (deliveries : List Event) (state : State) : Type 0 where
+-- it is a burst that comes in order, nothing is held, its first message may be delivered at this time of it, and these are all of its deliveries
+pub record GoesAllAlone (c : CastFields) (time : List ℕ) (deliveries : List Event) (state : State) : Type 0 where
   pub can : CanFollow c state
   pub many : ¬ IsSingle c
   pub in_order : IsInOrder c.sender (first_number c) state.reception
   pub none_held : fin.len state.delivery.queue.held ≡ 0
-  pub time : List ℕ
   pub grown : IsGrown (time_of state.reception.expander c.sender) c time
   pub ready : IsReady c.sender (field time) (field state.delivery.time)
-  pub fits : length spare ≡ length state.reception.expander
   pub are_all : deliveries ≡ burst_delivered c time
 
 -- what a course asks for
@@ -81,7 +79,7 @@ abbrev pub CanGo : CastFields → Course → State → Type 0
 CanGo c (Early spares) state = IsEarly c (times_in spares) state
 CanGo c (Waits time) state = MustWait c time state
 CanGo c (Alone time) state = GoesAlone c time state
-CanGo c (AllAlone spare deliveries) state = GoesAllAlone c spare deliveries.items state
+CanGo c (AllAlone time deliveries) state = GoesAllAlone c time deliveries.items state
 CanGo c (LeadsOn time count) state = HasTime c time state × HoldsAtMost c state count
 CanGo c (LetsGo spares count) state = CanTakeIn c (times_in spares) state × HoldsAtMost c state count
 

@@ -33,7 +33,7 @@ abbrev pub AreCopies : CastFields → Course → State → List Message → Type
 AreCopies c (Early spares) state copies = copies ≡ []
 AreCopies c (Waits time) state copies = copies ≡ []
 AreCopies c (Alone time) state copies = copies ≡ message_at c time ∷ []
-AreCopies c (AllAlone spare deliveries) state copies = copies ≡ delivered_by deliveries.items
+AreCopies c (AllAlone time deliveries) state copies = copies ≡ delivered_by deliveries.items
 AreCopies c (LeadsOn time count) state copies = AreDeliveries c state copies
 AreCopies c (LetsGo spares count) state copies = AreDeliveries c state copies
 
@@ -42,7 +42,7 @@ abbrev pub JoinsEvents : CastFields → Course → List Event → List Event →
 JoinsEvents c (Early spares) before after = after ≡ before
 JoinsEvents c (Waits time) before after = after ≡ before
 JoinsEvents c (Alone time) before after = after ≡ before ++ Deliver (message_at c time) ∷ []
-JoinsEvents c (AllAlone spare deliveries) before after = after ≡ before ++ deliveries.items
+JoinsEvents c (AllAlone time deliveries) before after = after ≡ before ++ deliveries.items
 JoinsEvents c (LeadsOn time count) before after = Unit {0}
 JoinsEvents c (LetsGo spares count) before after = Unit {0}
 

@@ -3,7 +3,7 @@
 ghost use Rattle.std.specs.Prelude.{◌≡◌, ◌<◌, ◌+◌, true, None, IfOk, IfSome, IfNone, OnOk, OnSome, length};
 ghost use Rattle.std.specs.FinMap as fin;
 ghost use Rattle.cb_times.specs.Group.{IsGroupSize, IsWindow};
-ghost use Rattle.cb_diffs.specs.Expansion.{Expands, IsGrown, time_of};
+ghost use Rattle.cb_diffs.specs.Expansion.{IsGrown, time_of};
 ghost use Rattle.cb_diffs.specs.Expansion.{IsNext as IsNextCast};
 ghost use Rattle.cb_gaps.specs.Buffer.{IsNext, Takes};
 ghost use Rattle.cb_frames.specs.Fields.{burst_fields, cast_fields, unit_fields, first_number, last_number, messages_of};
@@ -120,18 +120,19 @@ impl Reception {
     }
 
     /// Takes a burst of another member that comes in order, up to its last number: it is as if its singles were kept and taken out.
-    /// `spare` is for the time of its first message.
-    pub fn take_burst(&mut self, burst: &Burst, last: u32, spare: VectorTime)
+    /// Its first message has this time.
+    pub fn take_burst(&mut self, burst: &Burst, last: u32, time: &VectorTime)
         requires numbered { IsNumberedCast (burst_fields burst.now) }
         requires last { last ≡ last_number (burst_fields burst.now) }
         requires in_order { IsInOrder burst.now.sender (first_number (burst_fields burst.now))
             self.old }
         requires next { IsNextCast self.old.expander (burst_fields burst.now) }
-        requires size { length spare ≡ length self.old.expander }
+        requires grown { IsGrown (time_of self.old.expander burst.now.sender)
+            (burst_fields burst.now) time.now }
         ensures { TakesBurst (burst_fields burst.now) self.old self.new }
     {
         self.buffers[burst.sender as usize].take_in_order(last);
-        drop(first_expanded(&mut self.expander, burst, spare));
+        self.expander.take_burst(burst, time);
     }
 
     /// The sender's next message, where its single is there and none is missing before it.
@@ -178,19 +179,6 @@ fn expanded(expander: &mut Expander, cast: Cast, mut spare: VectorTime) -> Messa
         time: spare,
         payload: cast.payload,
     }
-}
-
-/// The time of the first message of the sender's next burst, written over the spare.
-fn first_expanded(expander: &mut Expander, burst: &Burst, mut spare: VectorTime) -> VectorTime
-    requires numbered { IsNumberedCast (burst_fields burst.now) }
-    requires next { IsNextCast expander.old (burst_fields burst.now) }
-    requires size { length spare ≡ length expander.old }
-    ensures { Expands expander.old (burst_fields burst.now) result expander.new }
-{
-    let Ok(()) = expander.burst_into(burst, &mut spare) else {
-        unreachable!("it is the next one")
-    };
-    spare
 }
 
 /// The name of its first message.

@@ -98,8 +98,8 @@ impl State {
             Course::Early { spares } => self.take_early(unit, spares),
             Course::Waits { time } => self.let_wait(only_cast(unit), time),
             Course::Alone { time } => self.deliver_alone(only_cast(unit), time, events),
-            Course::AllAlone { spare, deliveries } => {
-                self.deliver_all(unit, spare, deliveries, events);
+            Course::AllAlone { time, deliveries } => {
+                self.deliver_all(unit, time, deliveries, events);
             }
             Course::LeadsOn { time, most: _ } => self.lead_on(only_cast(unit), time, events),
             Course::LetsGo { spares, most: _ } => self.let_go(unit, spares, events),
@@ -159,11 +159,11 @@ impl State {
     fn deliver_all(
         &mut self,
         unit: Unit,
-        spare: VectorTime,
+        time: VectorTime,
         deliveries: Vec<Event>,
         events: &mut Vec<Event>,
     )
-        requires all { GoesAllAlone (unit_fields unit) spare deliveries.items self.old }
+        requires all { GoesAllAlone (unit_fields unit) time deliveries.items self.old }
         requires room { vec_len events.old + vec_len deliveries ≤ vec_capacity events.old }
         ensures takes { TakesAndDelivers (unit_fields unit) self.old self.new events.old.items
             events.new.items }
@@ -172,7 +172,7 @@ impl State {
     {
         let (sender, last) = (unit.sender(), unit.last());
         let burst = only_burst(unit);
-        self.reception.take_burst(&burst, last, spare);
+        self.reception.take_burst(&burst, last, &time);
         self.knowledge.hear(sender, last);
         self.delivery.time.set(sender, last);
         join_events(events, deliveries);

@@ -8,7 +8,7 @@ ghost use Rattle.cb_times.specs.Order.{field};
 ghost use Rattle.cb_frames.specs.Carrying.{IsNumberedCast};
 ghost use Rattle.cb_frames.specs.Fields.{burst_fields, cast_fields, unit_fields, first_number};
 ghost use Rattle.cb_delay.specs.Rule.{IsReady};
-ghost use Rattle.cb_diffs.specs.Expansion.{AreMembers, IsToldBy};
+ghost use Rattle.cb_diffs.specs.Expansion.{AreMembers};
 ghost use Rattle.cb_member.specs.Singles.{AreSparesFor, times_in};
 ghost use Rattle.cb_member.specs.State.{IsAlike};
 ghost use Rattle.cb_member.specs.Taking.{CanFollow};
@@ -18,7 +18,6 @@ ghost use Rattle.cb_member.specs.Course.{CanGo, HasTime, most};
 use crate::singles::Spares;
 use crate::state::State;
 use crate::text::another;
-use bytes::Bytes;
 use cb_delay::{Event, Message, is_ready};
 use cb_frames::{Burst, Cast, Unit};
 use cb_times::{Name, NoMemory, VectorTime};
@@ -39,9 +38,9 @@ pub enum Course {
     Alone {
         time: VectorTime,
     },
-    /// A burst that comes in order where nothing waits: it is delivered as a whole. `spare` is for the time of its first message.
+    /// A burst that comes in order where nothing waits: it is delivered as a whole. `time` is that of its first message.
     AllAlone {
-        spare: VectorTime,
+        time: VectorTime,
         deliveries: Vec<Event>,
     },
     /// It comes in order, and may let others go: at most this many messages are delivered.
@@ -136,16 +135,12 @@ impl State {
         if !self.reception.is_next_burst(burst) {
             return Ok(None);
         }
-        let ahead = heading(burst)?;
-        let time = self.reception.expander.time_ahead(&ahead)?;
+        let time = self.reception.expander.burst_ahead(burst)?;
         if !is_ready(burst.sender, &time, &self.delivery.time) {
             return Ok(None);
         }
         let deliveries = deliveries_of(self.alloc, burst, &time)?;
-        Ok(Some(Course::AllAlone {
-            spare: time,
-            deliveries,
-        }))
+        Ok(Some(Course::AllAlone { time, deliveries }))
     }
 
     #[inline(never)]
@@ -187,20 +182,6 @@ impl State {
             None => Err(AllocError),
         }
     }
-}
-
-/// A cast with the changes of a burst. The time of the burst's first message depends on no more than it says.
-fn heading(burst: &Burst) -> Result<Cast, NoMemory>
-    ensures { IfOk result (λ cast. IsToldBy (cast_fields cast) burst.now.sender burst.now.first
-        burst.now.changes.items) }
-{
-    Ok(Cast {
-        group: burst.group,
-        sender: burst.sender,
-        number: burst.first,
-        changes: Vec::from_slice(*burst.changes.allocator(), &burst.changes)?,
-        payload: Bytes::new(),
-    })
 }
 
 /// What is delivered of a burst whose first message has this time.

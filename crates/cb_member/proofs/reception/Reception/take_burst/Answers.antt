@@ -14,6 +14,6 @@ returns c seat facts are all =
     let lt = slice_get_within buffers burst.sender in_order.buffer in_order.at in
     let is : c.index_mut.result.now ≡ in_order.buffer =
     one_buffer c.index_mut.result.now in_order.buffer (sym (vec_at buffers burst.sender c.index_mut.result.now lt c.index_mut.ensures.value) ∙ in_order.at) in
-    burst_received burst c.args.self.now in_order seat facts are all _ c.first_expanded.result
+    burst_received burst c.args.self.now in_order seat facts are all _ c.args.time.now
     (ap (set buffers burst.sender) (c.take_in_order.ensures ∙ ap (λ (n : ℕ). record c.index_mut.result.now { taken = n }) c.requires.last ∙ ap (λ (b : Buffer). record b { taken = last_number burst }) is)) refl
-    c.first_expanded.ensures
+    c.take_burst.ensures

@@ -1,16 +1,13 @@
 use Rattle.std.proofs.Common.{◌≡◌, ◌∙◌, length, arith, sym}
 use Rattle.std.specs.FinMap as fin
-use Rattle.cb_frames.specs.Fields.{burst_fields, cast_fields}
-use Rattle.cb_member.proofs.BurstGoing.{goes_as_whole, next_burst, told_is_grown, told_is_next}
+use Rattle.cb_frames.specs.Fields.{burst_fields}
+use Rattle.cb_member.proofs.BurstGoing.{goes_as_whole, next_burst}
 use Rattle.cb_member.proofs.Courses.{expander_long, time_is_long}
 use Rattle.cb_member.proofs.TakingIn.{has_numbers, sender_is_counted}
 use Rattle.cb_member.proofs.state.State.course_of_burst.Goals as goal
 
-pub time_ahead-requires : goal.time_ahead-requires
-time_ahead-requires c =
-    let burst = burst_fields c.args.burst.now in
-    let in_order = c.is_next_burst.ensures c.if-not-is_next_burst.false in
-    record { next = told_is_next burst (cast_fields c.in_ok-ahead.ahead) c.args.self.now.reception.expander c.in_ok-ahead.ensures (next_burst burst c.args.self.now c.requires in_order) }
+pub burst_ahead-requires : goal.burst_ahead-requires
+burst_ahead-requires c = record { next = next_burst (burst_fields c.args.burst.now) c.args.self.now c.requires (c.is_next_burst.ensures c.if-not-is_next_burst.false) }
 
 pub is_ready-requires-clause-sender : goal.is_ready-requires-clause-sender
 is_ready-requires-clause-sender c = sender_is_counted (burst_fields c.args.burst.now) c.args.self.now c.requires
@@ -32,8 +29,7 @@ deliveries_of-requires-clause-member c =
 
 pub returns : goal.returns
 returns c =
-    let burst = burst_fields c.args.burst.now in
     let none : fin.len c.args.self.now.delivery.queue.held ≡ 0 = omega (arith, c.len.ensures.len, c.if-len-gt0.false) in
     goes_as_whole c.args.burst.now c.in_ok-time.time c.in_ok-deliveries.deliveries.items c.args.self.now c.requires (c.is_next_burst.ensures c.if-not-is_next_burst.false) none
-    (told_is_grown burst (cast_fields c.in_ok-ahead.ahead) c.args.self.now.reception.expander c.in_ok-time.time c.in_ok-ahead.ensures c.in_ok-time.ensures.time) c.in_ok-time.ensures.size
+    c.in_ok-time.ensures.time
     (c.is_ready.ensures.0 c.if-not-is_ready.false) c.in_ok-deliveries.ensures
