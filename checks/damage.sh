@@ -1,7 +1,7 @@
 #!/usr/bin/env bash
 # Puts each value in place of each byte of the longest frames (LONG in src/damage.rt of tests_hostile) and gives them to fresh members of
-# 64, in a scratch copy of the repository and without its proof. The gate does so with all short frames, but of these with one damage in
-# 53. A member that refuses is as it was; one that takes the frame is as one that takes the frames of its entries.
+# 64, in a scratch copy of the repository and without its proof. The gate does so with all short frames, and with one damage in 1,009 of
+# these. A member that refuses is as it was; one that takes the frame is as one that takes the frames of its entries.
 #   checks/damage.sh [EVERY [FROM]]     one damage in so many, from this one on (0 is the first), or all 1,606,400
 # A damage takes some 60 milliseconds of a processor here, where nothing is optimized, so that all take a day.
 # Several at once share the work: EVERY is then how many, and FROM is 0 for the first of them, 1 for the next.

@@ -9,8 +9,8 @@ use std::alloc::Global;
 use std::process::Abort;
 use std::test::*;
 
-/// Of the long frames one damage in so many is tried.
-const EVERY: usize = 53;
+/// One damage in this many of the long frames is tried. `checks/damage.sh` tries all.
+const EVERY: usize = 1009;
 
 /// A part of a text, and how often it stands there.
 pub type Part = (usize, &'static [u8]);
