@@ -8,6 +8,7 @@ pub mod Awaiting
 pub mod Behind
 pub mod BurstGoing
 pub mod BurstQueue
+pub mod BurstRows
 pub mod BurstTimes
 pub mod Bursting
 pub mod Casting
