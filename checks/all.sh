@@ -1,6 +1,6 @@
 #!/usr/bin/env bash
-# All that has to pass: the gate (`rt ci`), then the library and what uses it (bindings/check.sh), and then the quickest of the scripts that
-# refuse memory. Ends with another status than 0 where one fails. The last line counts what passed and failed in all three.
+# All that has to pass: the gate (`rt ci`), the library and what uses it (bindings/check.sh), the courses of casts, and the quickest of the
+# scripts that refuse memory. Ends with another status than 0 where one fails. The last line counts what passed and failed in all four.
 set -u -o pipefail
 cd "$(dirname "$0")/.." || exit 2
 work=$(mktemp -d)
@@ -37,6 +37,7 @@ add rt ci
 # what the gate has just proved need not be proved once more
 export JOLUNZA_OVER_GATE=1
 add bindings/check.sh
+add checks/courses.sh
 add checks/refuse-rooms.sh
 echo "$passed passed, $failed failed"
 [ "$failed" = 0 ]

@@ -449,6 +449,3 @@ impl CoreMember {
         self.state.has_news()
     }
 }
-
-#[cfg(test)]
-mod tests;

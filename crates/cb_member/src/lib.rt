@@ -14,8 +14,6 @@
 mod arrival;
 mod core_member;
 mod delivery;
-#[cfg(test)]
-mod examples;
 mod foretelling;
 mod helping;
 mod kept;

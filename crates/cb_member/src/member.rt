@@ -382,6 +382,3 @@ impl GroupMember for Member {
         Entry::copies(self.kept.alloc(), self.history())
     }
 }
-
-#[cfg(test)]
-mod tests;

@@ -8,6 +8,8 @@
 #[cfg(test)]
 mod agreement;
 #[cfg(test)]
+mod arrivals;
+#[cfg(test)]
 mod bursts;
 #[cfg(test)]
 mod cores;

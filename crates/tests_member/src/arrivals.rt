@@ -1,12 +1,21 @@
 //! What bursts do that arrive, statuses of what others delivered, and help frames: their values are from outside.
 
-use crate::examples::{ANSWERS, FIRST, GREETING, LATER, SECOND};
-use crate::member::Member;
 use bytes::Bytes;
-use cb_delay::Message;
-use cb_history::{Arrival, ArriveRefusal, Group, HelpFault, Outgoing};
+use cb_member::{Arrival, ArriveRefusal, Group, HelpFault, Member, Message, Outgoing};
 use std::alloc::Global;
 use std::process::Abort;
+
+/// The first and the second cast of member 0.
+const FIRST: &[u8] = b"\x11\x07\x00\x01\x00\x02hi";
+
+const SECOND: &[u8] = b"\x11\x07\x00\x02\x00\x02ho";
+
+/// A burst of the first two messages of member 0, one of member 1 that had delivered them, and one of the next two of member 0.
+const GREETING: &[u8] = b"\x21\x07\x00\x01\x00\x02\x02hi\x02yo";
+
+const ANSWERS: &[u8] = b"\x21\x07\x01\x01\x01\x00\x02\x02\x01a\x01b";
+
+const LATER: &[u8] = b"\x21\x07\x00\x03\x00\x02\x00\x00";
 
 fn member_after(rt: &impl Abort, alloc: Global, me: u32, frames: &[&'static [u8]]) -> Member {
     let mut member = member_at(rt, alloc, me);
