@@ -89,7 +89,10 @@ def due_memory(size, link, counts):
     frames = around_a_frame * counts["frames"] + counts["made"]
     if link != "channel":
         # over channels members share the bytes of a frame, else each has what came to it
-        frames += around_a_frame * (counts["entries"] - counts["frames"]) + counts["came"]
+        frames += counts["came"]
+    if link == "tcp":
+        # over UDP what comes lies in blocks
+        frames += around_a_frame * (counts["entries"] - counts["frames"])
     of_bursts = payload * counts["casts"]
     windows = size * window * (size * a_place + a_waiting) + size * (size - 1) * window * a_waiting
     return events + entries + frames + of_bursts + windows

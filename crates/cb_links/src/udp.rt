@@ -7,7 +7,7 @@ ghost use Rattle.std.specs.Prelude.{◌≡◌, IfOk, length};
 use crate::link::{ANY_PORT, Inlet, LinkFault, Offered, Outlet, Received};
 use crate::waits::wait;
 use bytes::Bytes;
-use cb_frames::LONGEST_FRAME;
+use cb_frames::{FrameBlock, LONGEST_FRAME};
 use cb_history::Outgoing;
 use std::alloc::{AllocError, Global};
 use std::io;
@@ -29,9 +29,12 @@ pub struct UdpLink;
 /// Where the frames of the others come from.
 #[derive(Drop)]
 pub struct UdpInlet {
-    alloc: Global,
     socket: UdpSocket,
+    /// For a datagram.
+    room: [u8; ROOM],
     failures: u64,
+    /// Where the next frames come to lie.
+    block: FrameBlock,
 }
 
 /// Where the frames of a member go.
@@ -72,9 +75,10 @@ fn unlinked<N: Net>(
     addresses: &mut Vec<SocketAddr>,
 ) -> Result<(UdpInlet, UdpOutlet), LinkFault> {
     let inlet = UdpInlet {
-        alloc,
         socket: socket(net)?,
+        room: [0; ROOM],
         failures: 0,
+        block: FrameBlock::new(alloc),
     };
     addresses.push(inlet.socket.local_addr()?)?;
     let outlet = UdpOutlet {
@@ -111,9 +115,8 @@ impl Inlet for UdpInlet {
     }
 
     fn receive<R: Wait + Clock>(&mut self, rt: &R) -> Result<Received, LinkFault> {
-        let mut room = [0; ROOM];
-        match self.socket.recv(&mut room) {
-            Ok(count) => match Bytes::copy_from_slice(self.alloc, &room[..count]) {
+        match self.socket.recv(&mut self.room) {
+            Ok(count) => match self.block.lodge(&self.room[..count]) {
                 Ok(frame) => Ok(Received::Frame(frame)),
                 Err(AllocError) => Err(LinkFault::NoMemory),
             },
