@@ -27,7 +27,7 @@ pub use failing::{FailInlet, FailOutlet};
 pub use going::Going;
 pub use laws::each_frame_fits;
 pub use link::{Inlet, LinkFault, Offered, Outlet, Received, Unsent, WaitingInlet, and_fault};
-pub use mailbox::{MOST_AT_ONCE, Mailbox, Slot, Taken, new_mailbox};
+pub use mailbox::{Mailbox, Slot, Taken, new_mailbox};
 pub use tcp::{TcpInlet, TcpLink, TcpOutlet};
 pub use udp::{UdpInlet, UdpLink, UdpOutlet};
 pub use waits::{WAIT, wait};

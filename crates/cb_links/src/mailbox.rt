@@ -17,10 +17,6 @@ use std::time::Duration;
 /// frames.
 pub const ENOUGH_GATHERED: usize = 2;
 
-/// So many messages are taken at once: for so many that were added the reader is woken, whether or
-/// not more are to come.
-pub const MOST_AT_ONCE: usize = 64;
-
 /// Whether the reader sleeps, or lets messages gather, and how it is woken.
 #[derive(Drop)]
 struct Reader {
@@ -92,23 +88,6 @@ impl<M: Drop> Slot<M> {
         Ok(())
     }
 
-    /// Puts a message in for a reader that `wake` wakes once all is added. One that is not woken
-    /// finds it within about a millisecond.
-    pub fn add(&self, rt: &impl Wait, message: M) -> Result<(), SendError<M>> {
-        self.to.send(rt, message)?;
-        if self.to.len() >= MOST_AT_ONCE {
-            self.wake();
-        }
-        Ok(())
-    }
-
-    /// Wakes the reader where it sleeps.
-    pub fn wake(&self) {
-        if self.reader.sleeps.load(Ordering::SeqCst) {
-            self.reader.parker.unpark();
-        }
-    }
-
     /// The reader sleeps, or waits for no more than there is.
     fn is_awaited(&self) -> bool {
         self.reader.sleeps.load(Ordering::SeqCst)
@@ -150,11 +129,7 @@ impl<M: Drop> Mailbox<M> {
     }
 
     /// A message that is there already.
-    pub fn more<R: Wait>(&self, rt: &R) -> Option<M> {
-        self.from.try_recv(rt).ok()
-    }
-
-    fn look<R: Wait>(&self, rt: &R) -> Taken<M> {
+    pub(crate) fn look<R: Wait>(&self, rt: &R) -> Taken<M> {
         match self.from.try_recv(rt) {
             Ok(message) => Taken::Message(message),
             Err(TryRecvError::Empty) => Taken::Nothing,

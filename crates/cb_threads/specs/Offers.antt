@@ -1,5 +1,7 @@
 -- What a worker takes, offers and loses of the frames that are to be sent.
-use Rattle.std.specs.Prelude.{◌≡◌, ℕ, ◌+◌, ◌≤◌, Option, Some, None}
+use Rattle.std.specs.Prelude.{◌≡◌, ℕ, ◌+◌, ◌≤◌, length, Option, Some, None}
+use Rattle.std.specs.declared.vec.Vec.{Vec}
+use Rattle.std.specs.declared.alloc.Global.{Global}
 use Rattle.cb_history.specs.declared.answer.Outgoing.{Outgoing}
 use Rattle.cb_links.specs.declared.link.Unsent.{Unsent}
 use Rattle.cb_links.specs.Counts.{held}
@@ -13,11 +15,7 @@ FailuresAreLost failures lost = failures ≤ lost
 abbrev pub AddsUnsent : ℕ → ℕ → ℕ → ℕ → ℕ → Type 0
 AddsUnsent count lost failures lost' failures' = (u : Unsent) × (u.offered ≡ held count) × (lost' ≡ held (lost + lost_of u)) × (failures' ≡ held (failures + u.failures))
 
--- how many frames were taken, with the next one where there is one
-abbrev pub taken_with : ℕ → Option Outgoing → ℕ
-taken_with taken (Some frame) = held (taken + 1)
+-- how many frames were taken, with those of the next list where there is one
+abbrev pub taken_with : ℕ → Option (Vec Outgoing Global) → ℕ
+taken_with taken (Some frames) = held (taken + length frames.items)
 taken_with taken None = taken
-
--- of the frames that were taken this number is left, and the others were offered
-abbrev pub IsLeft : ℕ → ℕ → ℕ → Type 0
-IsLeft offered left taken = taken ≡ held (offered + left)

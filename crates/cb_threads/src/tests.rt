@@ -13,6 +13,7 @@ mod group;
 mod helps;
 mod naps;
 mod parts;
+mod patient;
 mod plan;
 mod post;
 mod refusals;

@@ -18,16 +18,19 @@ use std::thread;
 use std::thread::{Promise, PromisedHandle, Scope, Threads};
 use std::time::Clock;
 
+/// Where a worker puts lists of frames that are to be sent.
+type Out = Slot<Vec<Outgoing>>;
+
 /// The ends of the workers' channel: one to send from for each of the first three, and one to
 /// receive from.
-pub type Ends = PerWorker<Slot<Outgoing>, Slot<Outgoing>, Slot<Outgoing>, Mailbox<Outgoing>>;
+pub type Ends = PerWorker<Out, Out, Out, Mailbox<Vec<Outgoing>>>;
 
 /// The workers of a member.
 pub type Crew<I, O, P, T, L> = PerWorker<
-    Worker<Receiving<I>, Slot<Outgoing>, L>,
-    Worker<Ticking<P>, Slot<Outgoing>, L>,
-    Worker<Talking<T>, Slot<Outgoing>, L>,
-    Worker<O, Mailbox<Outgoing>, L>,
+    Worker<Receiving<I>, Out, L>,
+    Worker<Ticking<P>, Out, L>,
+    Worker<Talking<T>, Out, L>,
+    Worker<O, Mailbox<Vec<Outgoing>>, L>,
 >;
 
 /// What the workers hand back, with None for one whose thread could not be started.

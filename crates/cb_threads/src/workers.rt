@@ -10,7 +10,7 @@ mod timer;
 mod turns;
 
 pub use desk::{Desk, Job, Worked, Worker};
-pub use post::Post;
+pub use post::{MOST_AT_ONCE, Post};
 pub use receiver::Receiving;
 pub use speaker::Talking;
 pub use timer::Ticking;

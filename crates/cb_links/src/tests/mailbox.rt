@@ -19,14 +19,13 @@ fn gave(rt: &impl Abort, taken: Taken<u32>, expected: Option<u32>) {
 fn messages_come_in_the_order_of_all_slots_and_then_nothing(rt: HostRuntime) {
     let (slot, mailbox) = new_mailbox(rt.alloc()).expect(&rt, "a mailbox");
     let other = slot.again().expect(&rt, "a slot");
-    assert!(&rt; slot.add(&rt, 1).is_ok());
+    assert!(&rt; slot.put(&rt, 1).is_ok());
     assert!(&rt; other.put(&rt, 2).is_ok());
-    assert!(&rt; slot.add(&rt, 3).is_ok());
-    slot.wake();
+    assert!(&rt; slot.put(&rt, 3).is_ok());
     gave(&rt, mailbox.take_at_once(&rt), Some(1));
     gave(&rt, mailbox.take(&rt), Some(2));
-    assert_eq!(&rt; mailbox.more(&rt), Some(3));
-    assert_eq!(&rt; mailbox.more(&rt), None);
+    gave(&rt, mailbox.look(&rt), Some(3));
+    gave(&rt, mailbox.look(&rt), None);
     gave(&rt, mailbox.take_at_once(&rt), None);
     gave(&rt, mailbox.take(&rt), None);
     drop(slot);
@@ -36,7 +35,7 @@ fn messages_come_in_the_order_of_all_slots_and_then_nothing(rt: HostRuntime) {
 #[test]
 fn a_mailbox_is_closed_once_its_last_slot_is_gone_and_it_is_empty(rt: HostRuntime) {
     let (slot, mailbox) = new_mailbox(rt.alloc()).expect(&rt, "a mailbox");
-    assert!(&rt; slot.add(&rt, 1).is_ok());
+    assert!(&rt; slot.put(&rt, 1).is_ok());
     drop(slot);
     gave(&rt, mailbox.take_at_once(&rt), Some(1));
     assert!(&rt; matches!(mailbox.take_at_once(&rt), Taken::Closed));

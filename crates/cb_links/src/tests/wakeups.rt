@@ -113,12 +113,9 @@ fn looks_and_puts(
     mailbox: &Mailbox<u32>,
     slot: &Slot<u32>,
 ) -> Taken<u32> {
-    let found = mailbox.more(rt);
+    let found = mailbox.look(rt);
     assert!(rt; slot.put(rt, 1).is_ok());
-    match found {
-        Some(message) => Taken::Message(message),
-        None => Taken::Nothing,
-    }
+    found
 }
 
 #[test]

@@ -10,7 +10,7 @@ use crate::{
     ChannelLink, Every, GroupReport, Limits, LinkFault, MemberReport, Outlet, Stop, run_group,
 };
 use bytes::Bytes;
-use cb_links::{ChannelInlet, ChannelOutlet, Mailbox, new_mailbox};
+use cb_links::{ChannelInlet, ChannelOutlet, Mailbox, Taken, new_mailbox};
 use cb_lock::{Seat, SharedMember};
 use cb_member::{Group, Member, Outgoing};
 use std::alloc::{AllocError, Global};
@@ -214,14 +214,16 @@ fn work<L: Ledger + Send + Sync, R: Wait + Clock + Abort>(
 }
 
 /// The first bytes of the frames that wait there.
-fn kinds<R: Wait + Abort>(rt: &R, alloc: Global, mailbox: &Mailbox<Outgoing>) -> Vec<u8> {
+fn kinds<R: Wait + Abort>(rt: &R, alloc: Global, mailbox: &Mailbox<Vec<Outgoing>>) -> Vec<u8> {
     let mut kinds = Vec::new(alloc);
-    for _frame in 0..100u32 {
-        let Some(frame) = mailbox.more(rt) else {
+    for _list in 0..100u32 {
+        let Taken::Message(frames) = mailbox.take_at_once(rt) else {
             break;
         };
-        let kind = frame.bytes.as_slice().first().copied();
-        kinds.push(kind.unwrap_or(0)).expect(rt, "memory");
+        for frame in &frames {
+            let kind = frame.bytes.as_slice().first().copied();
+            kinds.push(kind.unwrap_or(0)).expect(rt, "memory");
+        }
     }
     kinds
 }

@@ -114,7 +114,7 @@ fn run<L: Ledger + Send + Sync, R: Wait + Clock>(
     rt: &R,
     desk: &Desk<'_, L>,
     seat: Seat<L>,
-    end: Slot<Outgoing>,
+    end: Slot<Vec<Outgoing>>,
     who: Who,
 ) -> Worked<Broken, L> {
     match who {

@@ -1,8 +1,8 @@
 //! What a worker hands over at once comes in its order, or is lost.
 
-use crate::workers::Post;
+use crate::workers::{MOST_AT_ONCE, Post};
 use bytes::Bytes;
-use cb_links::{Mailbox, new_mailbox};
+use cb_links::{Mailbox, Taken, new_mailbox};
 use cb_member::Outgoing;
 use std::alloc::Global;
 use std::process::Abort;
@@ -22,43 +22,67 @@ fn frames(rt: &impl Abort, alloc: Global) -> Vec<Outgoing> {
     frames
 }
 
-/// How many of the texts come in their order, before another frame or none.
-fn in_order<R: Wait>(rt: &R, mailbox: &Mailbox<Outgoing>) -> usize {
-    let mut count: usize = 0;
-    for text in TEXTS {
-        if !is_next(rt, mailbox, text) {
+/// The texts of the frames that wait there, one behind the other.
+fn texts<R: Wait + Abort>(rt: &R, alloc: Global, mailbox: &Mailbox<Vec<Outgoing>>) -> Vec<u8> {
+    let mut texts = Vec::new(alloc);
+    for _list in 0..9u32 {
+        let Taken::Message(frames) = mailbox.take_at_once(rt) else {
             break;
+        };
+        for frame in &frames {
+            texts
+                .extend_from_slice(frame.bytes.as_slice())
+                .expect(rt, "memory");
         }
-        count = count.saturating_add(1);
     }
-    count
-}
-
-fn is_next<R: Wait>(rt: &R, mailbox: &Mailbox<Outgoing>, text: &str) -> bool {
-    match mailbox.more(rt) {
-        Some(frame) => frame.bytes.as_slice() == text.as_bytes(),
-        None => false,
-    }
+    texts
 }
 
 #[test]
 fn what_is_handed_over_at_once_comes_in_its_order(rt: HostRuntime) {
     let (slot, mailbox) = new_mailbox(rt.alloc()).expect(&rt, "a mailbox");
-    let mut post = Post::new(slot);
+    let mut post = Post::new(rt.alloc(), slot);
     post.put_all(&rt, frames(&rt, rt.alloc()));
-    let count = in_order(&rt, &mailbox);
+    let texts = texts(&rt, rt.alloc(), &mailbox);
     drop(post);
-    assert_eq!(&rt; count, 3);
+    assert_eq!(&rt; texts.as_slice(), b"abc".as_slice());
+}
+
+#[test]
+fn what_is_gathered_goes_before_what_is_handed_over_at_once(rt: HostRuntime) {
+    let (slot, mailbox) = new_mailbox(rt.alloc()).expect(&rt, "a mailbox");
+    let mut post = Post::new(rt.alloc(), slot);
+    let bytes = Bytes::from_static(b"first");
+    post.put(&rt, Outgoing { to: None, bytes });
+    post.put_all(&rt, frames(&rt, rt.alloc()));
+    let texts = texts(&rt, rt.alloc(), &mailbox);
+    drop(post);
+    assert_eq!(&rt; texts.as_slice(), b"firstabc".as_slice());
+}
+
+/// The sender need not wait until the worker has nothing more to do.
+#[test]
+fn enough_frames_are_handed_over_without_a_flush(rt: HostRuntime) {
+    let (slot, mailbox) = new_mailbox(rt.alloc()).expect(&rt, "a mailbox");
+    let mut post = Post::new(rt.alloc(), slot);
+    for _frame in 0..MOST_AT_ONCE {
+        let bytes = Bytes::from_static(b".");
+        post.put(&rt, Outgoing { to: None, bytes });
+    }
+    let texts = texts(&rt, rt.alloc(), &mailbox);
+    drop(post);
+    assert_eq!(&rt; texts.len(), MOST_AT_ONCE);
 }
 
 #[test]
 fn frames_that_the_channel_does_not_take_are_lost(rt: HostRuntime) {
     let (slot, mailbox) = new_mailbox(rt.alloc()).expect(&rt, "a mailbox");
     drop(mailbox);
-    let mut post = Post::new(slot);
+    let mut post = Post::new(rt.alloc(), slot);
     for _frame in 0..3u32 {
         let bytes = Bytes::from_static(b"yo");
         post.put(&rt, Outgoing { to: None, bytes });
     }
+    post.flush(&rt);
     assert_eq!(&rt; (post.offered, post.lost), (3, 3));
 }

@@ -18,8 +18,10 @@ use std::sync::ledger::{Blank, Ledger};
 use std::test::*;
 use std::time::Clock;
 
-/// More than are taken at once.
+/// How many frames wait, and how many of them stand in a list.
 const WAITING: u8 = 200;
+
+const IN_A_LIST: u8 = 40;
 
 #[test]
 fn all_frames_that_wait_are_sent_in_order(rt: HostRuntime) {
@@ -80,13 +82,24 @@ fn send<L: Ledger + Send + Sync, R: Wait + Clock + Abort>(
 }
 
 /// A mailbox in which these frames wait, and to which no more will come.
-fn waiting<R: Wait + Abort>(rt: &R, alloc: Global) -> Mailbox<Outgoing> {
+fn waiting<R: Wait + Abort>(rt: &R, alloc: Global) -> Mailbox<Vec<Outgoing>> {
     let (slot, mailbox) = new_mailbox(alloc).expect(rt, "a mailbox");
-    for number in 0..WAITING {
+    for first in (0..WAITING).step_by(IN_A_LIST as usize) {
+        assert!(rt; slot.put(rt, list_from(rt, alloc, first)).is_ok());
+    }
+    mailbox
+}
+
+/// A list of frames that have the numbers from this one on.
+fn list_from(rt: &impl Abort, alloc: Global, first: u8) -> Vec<Outgoing> {
+    let mut frames = Vec::new(alloc);
+    for number in first..first.saturating_add(IN_A_LIST) {
         let mut text = Vec::new(alloc);
         text.push(number).expect(rt, "memory");
         let bytes = Bytes::from_vec(text).expect(rt, "memory");
-        assert!(rt; slot.add(rt, Outgoing { to: None, bytes }).is_ok());
+        frames
+            .push(Outgoing { to: None, bytes })
+            .expect(rt, "memory");
     }
-    mailbox
+    frames
 }

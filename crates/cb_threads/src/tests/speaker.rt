@@ -18,7 +18,14 @@ use std::time::{Clock, Duration, Instant};
 /// No turn without a cast is between the last cast and the end.
 #[test]
 fn what_was_cast_last_is_sent(rt: HostRuntime) {
-    let casts = finish::<Brand, _>(&rt, rt.alloc(), Blank::new(4));
+    let casts = finish::<Brand, _>(&rt, rt.alloc(), Blank::new(4), false);
+    assert_eq!(&rt; casts, Some(2));
+}
+
+/// Casts that are still gathered at the end go then.
+#[test]
+fn what_a_quick_talker_cast_last_is_sent(rt: HostRuntime) {
+    let casts = finish::<Brand, _>(&rt, rt.alloc(), Blank::new(4), true);
     assert_eq!(&rt; casts, Some(2));
 }
 
@@ -26,13 +33,14 @@ fn finish<L: Ledger + Send + Sync, R: Threads + Wait + Clock + Abort + Sync>(
     rt: &R,
     alloc: Global,
     blank: Blank,
+    is_quick: bool,
 ) -> Option<u32>
     requires { (blank.name ≡ L.name) × (blank.parts ≡ L.parts) × (blank.parts ≡ 4) }
 {
     let group = Group::new(7, 2, 4).expect(rt, "a group");
     let member = Member::new(alloc, group, 0, 100).expect(rt, "a member");
     let (shared, seat) = SharedMember::<L>::new(alloc, blank, member);
-    sent(rt, alloc, &shared, seat)
+    sent(rt, alloc, &shared, seat, is_quick)
 }
 
 /// How many casts the outlet was given of a talker that casts twice and has finished once it has
@@ -42,6 +50,7 @@ fn sent<L: Ledger + Send + Sync, R: Threads + Wait + Clock + Abort + Sync>(
     alloc: Global,
     shared: &SharedMember<L>,
     seat: Seat<L>,
+    is_quick: bool,
 ) -> Option<u32>
     requires { seat.parts ≡ 4 }
 {
@@ -53,7 +62,7 @@ fn sent<L: Ledger + Send + Sync, R: Threads + Wait + Clock + Abort + Sync>(
         events: 2,
         seen: 0,
         refusals: 0,
-        quick: false,
+        quick: is_quick,
     };
     let link = (inlet(rt, alloc), Counter { casts: 0 });
     let limits = Limits { turns: 3 };

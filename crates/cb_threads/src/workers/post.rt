@@ -5,63 +5,81 @@ ghost use Rattle.cb_links.specs.Counts.{held};
 
 use cb_links::Slot;
 use cb_member::Outgoing;
+use std::alloc::Global;
+use std::mem;
 use std::sync::Wait;
+
+/// How many gathered frames are enough: they go to the sender, whether or not more are to come.
+pub const MOST_AT_ONCE: usize = 64;
 
 /// Where a worker hands what is to be sent. The sender ends once every worker has let its own go.
 ///
-/// The sender is woken once for all that was put, by `wake`: a worker calls it before it waits.
+/// Frames that come one by one are gathered, and the sender is woken once for all of them: a worker
+/// calls `flush` before it waits, and after its last turn.
 #[derive(Drop)]
 pub struct Post {
-    out: Slot<Outgoing>,
-    /// Something was put that the sender was not woken for.
-    has_put: bool,
+    alloc: Global,
+    out: Slot<Vec<Outgoing>>,
+    /// Frames that the sender was not given yet.
+    gathered: Vec<Outgoing>,
     /// How many frames were handed over.
     pub offered: u64,
-    /// How many of them the channel did not take.
+    /// How many of them found no memory, or were not taken by the channel.
     pub lost: u64,
 }
 
 impl Post {
-    pub fn new(out: Slot<Outgoing>) -> Post {
+    pub fn new(alloc: Global, out: Slot<Vec<Outgoing>>) -> Post {
         Post {
+            alloc,
             out,
-            has_put: false,
+            gathered: Vec::new(alloc),
             offered: 0,
             lost: 0,
         }
     }
 
-    /// Hands a frame to the sender, which finds it within about a millisecond where it is not
-    /// woken.
+    /// Gathers a frame for the sender. Where memory for it is refused, it is lost.
     pub fn put(&mut self, rt: &impl Wait, out: Outgoing)
         ensures { self.new.offered ≡ held (self.old.offered + 1) }
     {
-        self.has_put = true;
         self.offered = self.offered.saturating_add(1);
-        if self.out.add(rt, out).is_err() {
+        if self.gathered.push(out).is_err() {
             self.lost = self.lost.saturating_add(1);
+        }
+        if self.gathered.len() >= MOST_AT_ONCE {
+            self.flush(rt);
         }
     }
 
-    /// Hands frames to the sender, in order, and wakes it.
+    /// Hands frames to the sender, after those that are gathered, in order.
     pub fn put_all(&mut self, rt: &impl Wait, out: Vec<Outgoing>)
         ensures { self.new.offered ≡ held (self.old.offered + length out.items) }
     {
-        // Read for the prover: a count is in its range.
-        let _offered = self.offered;
-        for frame in out {
-            self.put(rt, frame);
-        }
-        self.wake();
+        self.offered = self.offered.saturating_add(out.len() as u64);
+        self.flush(rt);
+        self.give(rt, out);
     }
 
-    /// Wakes the sender for what was put, where it sleeps.
-    pub fn wake(&mut self)
+    /// Hands the gathered frames to the sender.
+    pub fn flush(&mut self, rt: &impl Wait)
         ensures { self.new.offered ≡ self.old.offered }
     {
-        if self.has_put {
-            self.has_put = false;
-            self.out.wake();
+        if !self.gathered.is_empty() {
+            let frames = mem::replace(&mut self.gathered, Vec::new(self.alloc));
+            self.give(rt, frames);
+        }
+    }
+
+    fn give(&mut self, rt: &impl Wait, frames: Vec<Outgoing>)
+        ensures { self.new.offered ≡ self.old.offered }
+    {
+        if frames.is_empty() {
+            return;
+        }
+        let count = frames.len() as u64;
+        if self.out.put(rt, frames).is_err() {
+            self.lost = self.lost.saturating_add(count);
         }
     }
 }

@@ -46,16 +46,21 @@ impl<T: Talker + Send + Drop> Role for Talking<T> {
 
     ghost failed = { λ _. 0 };
 
-    /// What waits is cast before the talker is asked again.
+    /// What waits is cast before the talker is asked again. Only the casts of a quick talker are
+    /// gathered: any other may think for long before its next.
     fn turn<L: Ledger, R: Wait + Clock>(
         &mut self,
         rt: &R,
         place: &mut Place<'_, L>,
     ) -> Result<Turn, Failed> {
-        Ok(match self.waiting.take() {
+        let turn = match self.waiting.take() {
             Some(payloads) => self.cast(rt, place, payloads),
             None => self.ask(rt, place),
-        })
+        };
+        if !self.talker.is_quick() {
+            place.post.flush(rt);
+        }
+        Ok(turn)
     }
 
     fn end(self, ending: Ending<'_>) -> T {

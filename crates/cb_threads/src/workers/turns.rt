@@ -139,9 +139,9 @@ fn and_refused(refused: u64, turn: Turn) -> u64
 }
 
 impl<'a, L: Ledger> Place<'a, L> {
-    /// Sleeps a millisecond. The sender is woken before for what was put.
+    /// Sleeps a millisecond. What was put goes to the sender before.
     fn rest<R: Wait + Clock>(&mut self, rt: &R) {
-        self.post.wake();
+        self.post.flush(rt);
         wait(rt);
     }
 
@@ -164,7 +164,7 @@ impl<'a, L: Ledger> Place<'a, L> {
     }
 }
 
-impl<W: Role, L: Ledger + Send + Sync> Job<L> for Worker<W, Slot<Outgoing>, L> {
+impl<W: Role, L: Ledger + Send + Sync> Job<L> for Worker<W, Slot<Vec<Outgoing>>, L> {
     type Part = W::Part;
 
     ghost kept = { λ worker turns worked.
@@ -178,7 +178,7 @@ impl<W: Role, L: Ledger + Send + Sync> Job<L> for Worker<W, Slot<Outgoing>, L> {
         let mut place = Place {
             desk,
             seat,
-            post: Post::new(end),
+            post: Post::new(desk.alloc, end),
         };
         let mut course = Course::begun();
         for _turn in 0..desk.ending.limits.turns {
@@ -190,6 +190,7 @@ impl<W: Role, L: Ledger + Send + Sync> Job<L> for Worker<W, Slot<Outgoing>, L> {
                 place.rest(rt);
             }
         }
+        place.post.flush(rt);
         place.left(role.end(desk.ending), course)
     }
 }

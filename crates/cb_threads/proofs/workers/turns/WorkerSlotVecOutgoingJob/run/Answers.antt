@@ -1,5 +1,5 @@
 use Rattle.std.proofs.Common.{arith}
-use Rattle.cb_threads.proofs.workers.turns.WorkerSlotOutgoingJob.run.Goals as goal
+use Rattle.cb_threads.proofs.workers.turns.WorkerSlotVecOutgoingJob.run.Goals as goal
 
 pub loop-turn-preserved : goal.loop-turn-preserved
 loop-turn-preserved g c = (

@@ -1,6 +1,6 @@
 use Rattle.std.proofs.Common.{◌≤◌}
 use Rattle.cb_links.specs.Counts.{MetAtMost}
-use Rattle.cb_threads.proofs.workers.turns.WorkerSlotOutgoingJob.run.Given as goal
+use Rattle.cb_threads.proofs.workers.turns.WorkerSlotVecOutgoingJob.run.Given as goal
 
 -- what was met so far was counted, and in each turn at most one arrival was refused
 abbrev pub invariant-loop-turn : goal.invariant-loop-turn
