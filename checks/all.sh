@@ -1,5 +1,5 @@
 #!/usr/bin/env bash
-# All that has to pass: the gate (`rt ci`), the library and what uses it (bindings/check.sh), the courses of casts, and the quickest of the
+# All that has to pass: the gate (`rt ci`), the library and what uses it (bindings/check.sh), the tests of private items, and the quickest of the
 # scripts that refuse memory. Ends with another status than 0 where one fails. The last line counts what passed and failed in all four.
 set -u -o pipefail
 cd "$(dirname "$0")/.." || exit 2
@@ -37,7 +37,7 @@ add rt ci
 # what the gate has just proved need not be proved once more
 export JOLUNZA_OVER_GATE=1
 add bindings/check.sh
-add checks/courses.sh
+add checks/inner-tests.sh
 add checks/refuse-rooms.sh
 echo "$passed passed, $failed failed"
 [ "$failed" = 0 ]

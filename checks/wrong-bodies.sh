@@ -38,11 +38,12 @@ fill() {
     ' "$work/results" "$top/docs/WRONG_BODIES.md"
 }
 
-# the crate whose tests run on a mutant of the crate; `courses` is `checks/courses.sh`
+# the crate whose tests run on a mutant of the crate; `inner-tests` is `checks/inner-tests.sh` for that crate
 tests_of() {
     case $1 in
-        cb_varint | cb_frames | cb_times | cb_diffs | cb_delay) echo tests_base ;;
-        cb_member) echo tests_member courses ;;
+        cb_varint | cb_frames | cb_times | cb_diffs | cb_delay | cb_gaps) echo tests_base ;;
+        cb_stability) echo tests_base inner-tests ;;
+        cb_member) echo tests_member inner-tests ;;
         cb_reference) echo tests_member ;;
         cb_history) echo tests_group cb_lock ;;
         cb_causality | cb_rooms | cb_world | cb_trace) echo tests_group ;;
@@ -66,8 +67,8 @@ try() {
         return 1
     fi
     for of in $(tests_of "$crate"); do
-        if [ "$of" = courses ]; then
-            shown=$("$copy/checks/courses.sh" 2>&1)
+        if [ "$of" = inner-tests ]; then
+            shown=$("$copy/checks/inner-tests.sh" "$crate" 2>&1)
         else
             shown=$(cd "$copy/crates/$of" && rt try --test 2>&1)
         fi

@@ -355,6 +355,3 @@ fn push_gap(ranges: &mut Vec<Range>, before: u32, last: u32) -> Result<(), NoMem
     }
     Ok(())
 }
-
-#[cfg(test)]
-mod tests;

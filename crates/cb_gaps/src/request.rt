@@ -73,6 +73,3 @@ fn first_ranges(alloc: Global, ranges: &[Range]) -> Result<Option<Vec<Range>>, N
     let first = &ranges[..MOST_RANGES.min(ranges.len())];
     Ok(Some(Vec::from_slice(alloc, first)?))
 }
-
-#[cfg(test)]
-mod tests;

@@ -230,6 +230,3 @@ fn minimum_with(minimum: Minimum, count: u32) -> Minimum
     }
     minimum
 }
-
-#[cfg(test)]
-mod tests;

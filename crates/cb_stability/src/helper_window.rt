@@ -112,6 +112,3 @@ impl HelperWindow {
         copies_in(*self.frames.allocator(), &self.frames, ranges)
     }
 }
-
-#[cfg(test)]
-mod tests;

@@ -8,8 +8,6 @@
 #![tactic(auto)]
 
 mod acks;
-#[cfg(test)]
-mod fixtures;
 mod helper_window;
 mod laws;
 mod relays;

@@ -255,6 +255,3 @@ fn copies_behind(
     }
     Ok(copies)
 }
-
-#[cfg(test)]
-mod tests;

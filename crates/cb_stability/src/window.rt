@@ -130,6 +130,3 @@ impl SentWindow {
         places.min(numbers)
     }
 }
-
-#[cfg(test)]
-mod tests;

@@ -1,12 +1,15 @@
 //! Worked examples: how far the casts of a sender are stable.
 //!
 //! What is asserted is taken first: acknowledgements that live from assert to assert take the prover many times as long.
-use super::*;
+
+use crate::asserts::same;
+use cb_stability::Acks;
+use cb_times::VectorTime;
 use std::process::Abort;
 use std::test::*;
 
 fn are(rt: &impl Abort, found: &[u32], expected: &[u32]) {
-    assert_eq!(rt; found, expected);
+    same(rt, found, expected);
 }
 
 #[test]

@@ -1,8 +1,11 @@
 //! Worked examples: which frames are handed on, and in which order they are kept.
 ghost use Rattle.cb_times.specs.Group.{IsWindow};
 
-use super::*;
-use crate::fixtures::{are_of, frame_of, numbers_to_65, range};
+use crate::asserts::holds_at;
+use crate::windows::{are_of, frame_of, numbers_to_65, range};
+use cb_frames::Range;
+use cb_stability::Relays;
+use std::alloc::Global;
 use std::process::Abort;
 use std::test::*;
 
@@ -41,7 +44,7 @@ fn gives(rt: &impl Abort, relays: &Relays, known: (u32, u32), ranges: &[Range], 
         .expect(rt, "memory");
     let are_these = are_of(&frames, numbers);
     drop(frames);
-    assert!(rt; are_these, "they are not {numbers:?}");
+    holds_at(rt, are_these, &numbers);
 }
 
 #[test]

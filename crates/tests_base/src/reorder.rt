@@ -1,9 +1,11 @@
 //! Worked examples of one sender's casts and bursts: what is kept, which come out, what is missing.
 ghost use Rattle.cb_times.specs.Group.{IsWindow};
 
-use super::*;
 use bytes::Bytes;
-use cb_frames::{Burst, Cast, Change, LAST_NUMBER as LAST};
+use cb_frames::{Burst, Cast, LAST_NUMBER as LAST, Range, Unit};
+use cb_gaps::{Admission, Reorder};
+use cb_times::NoMemory;
+use std::alloc::Global;
 use std::process::Abort;
 use std::test::*;
 
@@ -80,12 +82,9 @@ fn keep_burst(reorder: &mut Reorder, delivered: u32, burst: Burst) -> Option<Adm
 fn after(rt: &impl Abort, alloc: Global, window: u32, taken: u32) -> Reorder
     requires { IsWindow window }
 {
-    let kept = VecDeque::with_capacity(alloc, window as usize).expect(rt, "memory");
-    Reorder {
-        window,
-        taken,
-        kept,
-    }
+    let mut reorder = Reorder::new(alloc, window).expect(rt, "memory");
+    reorder.take_in_order(taken);
+    reorder
 }
 
 /// The group of a cast, its name and its payload.

@@ -1,7 +1,9 @@
 //! Requests and help frames as bytes, and how many ranges they have.
-use super::*;
+
 use bytes::Bytes;
-use cb_frames::{EncodeFault, encode};
+use cb_frames::{EncodeFault, Frame, Range, encode};
+use cb_gaps::{help_of, request_of};
+use std::alloc::Global;
 use std::process::Abort;
 use std::test::*;
 
