@@ -34,6 +34,3 @@ pub use named::Named;
 pub use node::{MOST_FRAMES, Node, now, shorter};
 pub use pace::Pacing;
 pub use refused::Refused;
-
-#[cfg(test)]
-mod tests;

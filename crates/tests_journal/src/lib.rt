@@ -1,4 +1,4 @@
-//! Tests of journals with public calls alone.
+//! Tests of journals and of nodes with public calls alone.
 #![tactic(auto)]
 
 #[cfg(test)]
@@ -8,10 +8,20 @@ mod cores;
 #[cfg(test)]
 mod devices;
 #[cfg(test)]
+mod fakes;
+#[cfg(test)]
 mod journals;
 #[cfg(test)]
 mod nodes;
 #[cfg(test)]
+mod pacing;
+#[cfg(test)]
+mod quiet;
+#[cfg(test)]
 mod resumes;
+#[cfg(test)]
+mod talking;
+#[cfg(test)]
+mod three;
 #[cfg(test)]
 mod writers;

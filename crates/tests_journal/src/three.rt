@@ -1,12 +1,10 @@
 //! Three nodes over channels, by turns.
 
-use crate::bounds::Bounds;
-use crate::fault::TurnFault;
-use crate::node::Node;
-use crate::tests::fakes::{Lossy, SetClock, Timed};
+use crate::fakes::{Lossy, SetClock, Timed};
 use cb_journal::NoJournal;
 use cb_links::{ChannelInlet, ChannelLink, ChannelOutlet};
 use cb_member::{Group, Member};
+use cb_node::{Bounds, Node, TurnFault};
 use std::alloc::Global;
 use std::process::Abort;
 use std::sync::Wait;

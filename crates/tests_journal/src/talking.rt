@@ -1,12 +1,10 @@
 //! The loop of a program round its node, as the guide shows it.
 
-use crate::bounds::Bounds;
-use crate::fault::TurnFault;
-use crate::node::Node;
-use crate::tests::fakes::{SetClock, Silent, Timed};
+use crate::fakes::{SetClock, Silent, Timed};
 use cb_journal::NoJournal;
 use cb_links::{ChannelLink, ChannelOutlet};
 use cb_member::{Event, Group, Member};
+use cb_node::{Bounds, Node, TurnFault};
 use std::sync::Wait;
 use std::time::{Clock, Duration};
 

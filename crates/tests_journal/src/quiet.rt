@@ -1,13 +1,10 @@
 //! How often a node ticks, by a clock that is set.
 
-use crate::bounds::Bounds;
-use crate::desk::for_all;
-use crate::fault::TurnFault;
-use crate::node::Node;
-use crate::tests::fakes::{Broken, SetClock, Short, Silent, Timed};
+use crate::fakes::{Broken, SetClock, Short, Silent, Timed};
 use cb_journal::{KeepFault, NoJournal};
 use cb_links::{ChannelInlet, ChannelLink, ChannelOutlet, Inlet, Outlet, Received, WaitingInlet};
 use cb_member::{Group, Member};
+use cb_node::{Bounds, Node, TurnFault, for_all};
 use std::alloc::Global;
 use std::process::Abort;
 use std::sync::Wait;

@@ -1,7 +1,6 @@
 //! The times between two ticks.
 
-use crate::bounds::{BadBounds, Bounds};
-use crate::pace::Pacing;
+use cb_node::{BadBounds, Bounds, Pacing};
 use std::process::Abort;
 use std::time::Duration;
 
@@ -61,18 +60,6 @@ fn news_sets_the_time_back_to_the_quick_one(rt: HostRuntime) {
         let time = tick(&mut pacing, after, then);
         assert!(&rt; time == millis);
     }
-}
-
-/// However many ticks bring no news, the time is the slow one.
-#[test]
-fn no_count_of_ticks_is_too_great(rt: HostRuntime) {
-    let bounds = Bounds::new(Duration::from_millis(1), Duration::from_secs(3_600));
-    let bounds = bounds.expect(&rt, "bounds");
-    let slow = bounds.time_after(9_000);
-    let greatest = bounds.time_after(u32::MAX);
-    let before = bounds.time_after(21);
-    assert!(&rt; slow == Duration::from_secs(3_600) && greatest == slow);
-    assert!(&rt; before == Duration::from_millis(2_097_152));
 }
 
 /// The first, the second and the fourth tick bring news, and those after it none. They are asked after
