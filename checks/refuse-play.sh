@@ -1,7 +1,7 @@
 #!/usr/bin/env bash
 # Runs `confer play` on each schedule with one of its growths refused, every STEPth one in turn, by the kit's own switch: a
 # run prints its whole text, or ends with status 5, says so, and has printed nothing. The program is refused_play/main.txt
-# over the sources of confer and the texts of confer_play; how it is run stands in refused.sh. A run takes less than MOST
+# over the sources of confer and the texts of tests_confer; how it is run stands in refused.sh. A run takes less than MOST
 # growths: the last of them are never reached, else the script fails. `refuse-memory.sh` refuses each growth, of the built
 # program.
 set -eu
@@ -9,7 +9,7 @@ set -eu
 copy_whole
 crate=$work/whole/crates/confer
 rm -rf "$crate/proofs" "$crate/src/harness.rt" "$crate/src/cli/tests.rt" "$crate/src/cli/tests"
-cp -r "$top/crates/confer_play/src/schedules" "$top/crates/confer_play/src/schedules.rt" "$crate/src"
+cp -r "$top/crates/tests_confer/src/schedules" "$top/crates/tests_confer/src/schedules.rt" "$crate/src"
 add_program confer refused_play
 perl -0pi -e 's/#\[cfg\(test\)\]\nmod tests;\n//' "$crate/src/cli.rt"
 

@@ -1,12 +1,12 @@
 #!/usr/bin/env python3
-"""The texts of schedules/ as files of the tests of confer_play, which can read no file: --write writes them. Without it, says whether the files are up to
+"""The texts of schedules/ as files of tests_confer, which can read no file: --write writes them. Without it, says whether the files are up to
 date, and runs the built program on each script, if it was built."""
 import os
 import subprocess
 import sys
 
 TOP = os.path.join(os.path.dirname(os.path.abspath(__file__)), "..")
-COPY = os.path.join(TOP, "crates/confer_play/src")
+COPY = os.path.join(TOP, "crates/tests_confer/src")
 PROGRAM = os.path.join(TOP, "crates/confer/out/confer")
 # Each schedule in a file with those of its theme: the module of the file, what it is about, and its schedules.
 THEMES = [

@@ -51,7 +51,7 @@ tests_of() {
         cb_node) echo tests_journal inner-tests ;;
         cb_lines | cb_replay) echo tests_journal tests_group ;;
         cb_handle) echo jolunza ;;
-        confer_text) echo confer_text confer_expand confer_play ;;
+        confer_text | confer_expand | confer_play | confer_audit) echo tests_confer ;;
         *) echo "$1" ;;
     esac
 }

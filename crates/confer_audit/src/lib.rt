@@ -11,6 +11,3 @@ mod text;
 
 pub use fault::TraceInputFault;
 pub use running::audit_trace;
-
-#[cfg(test)]
-mod tests;

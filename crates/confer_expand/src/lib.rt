@@ -15,6 +15,3 @@ mod refusal;
 mod streams;
 
 pub use streams::expand_lines;
-
-#[cfg(test)]
-mod tests;

@@ -18,8 +18,3 @@ pub use fault::ScriptFault;
 pub use reading::script_of;
 pub use running::play_script;
 pub use script::{Script, ScriptStep, Setting};
-
-#[cfg(test)]
-mod schedules;
-#[cfg(test)]
-mod tests;

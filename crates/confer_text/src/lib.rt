@@ -13,6 +13,3 @@ pub use streams::{LONGEST_INPUT, read, read_whole, room, write_whole};
 pub use text::{
     LONGEST_TIME, put_fault, put_hex, put_name, put_number, put_parameter, put_payload, put_time,
 };
-
-#[cfg(test)]
-mod tests;

@@ -1,6 +1,6 @@
 //! What is written for which input.
 
-use crate::expand_lines;
+use confer_expand::expand_lines;
 use confer_fakes::{Outcome, Sink, reading, writing};
 use confer_text::LinesFault;
 use std::alloc::Global;

@@ -1,6 +1,6 @@
 //! What no clause says: that a writer which takes nothing is not asked for ever, and the texts of faults.
 
-use crate::{LinesFault, write_whole};
+use confer_text::{LinesFault, write_whole};
 use std::alloc::Global;
 use std::io;
 use std::io::Write;

@@ -4,8 +4,8 @@ mod many;
 mod rooms;
 
 use crate::schedules::{Schedule, parts};
-use crate::{ScriptFault, play_script};
 use confer_fakes::{Bulk, Outcome, Sink, reading, writing};
+use confer_play::{ScriptFault, play_script};
 use std::alloc::{AllocError, Global};
 use std::io::{ErrorKind, Read};
 use std::process::Abort;

@@ -1,6 +1,6 @@
 //! What is printed of which trace, and what ends an audit.
 
-use crate::{TraceInputFault, audit_trace};
+use confer_audit::{TraceInputFault, audit_trace};
 use confer_fakes::{Bulk, Outcome, Sink, reading, writing};
 use std::alloc::Global;
 use std::io::{ErrorKind, Read};
