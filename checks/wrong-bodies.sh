@@ -48,6 +48,7 @@ tests_of() {
         cb_history) echo tests_group cb_lock ;;
         cb_causality | cb_rooms | cb_world | cb_trace) echo tests_group ;;
         cb_journal) echo tests_journal ;;
+        cb_peers | cb_remote) echo tests_links ;;
         cb_node) echo tests_journal inner-tests ;;
         cb_lines | cb_replay) echo tests_journal tests_group ;;
         cb_handle) echo jolunza ;;

@@ -15,6 +15,3 @@ pub use hello::{Disagreement, HELLO_LENGTH, Hello, Terms};
 pub use laws::{both_ends_find_the_same, is_read_as_written};
 pub use make_fault::MakeFault;
 pub use peers::Peers;
-
-#[cfg(test)]
-mod tests;

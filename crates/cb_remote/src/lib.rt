@@ -17,6 +17,3 @@ mod udp;
 pub use cb_peers::{Disagreement, MakeFault, Peers};
 pub use tcp::{Refusal, TcpPeerInlet, TcpPeerOutlet, TcpPeers};
 pub use udp::{UdpPeerInlet, UdpPeerOutlet, UdpPeers};
-
-#[cfg(test)]
-mod tests;

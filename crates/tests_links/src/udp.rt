@@ -2,11 +2,11 @@
 
 ghost use Rattle.std.specs.Prelude.{◌≡◌};
 
-use super::places::{at, come, frame, free, is_quiet, peers_of, sends};
-use crate::{MakeFault, UdpPeerInlet, UdpPeerOutlet, UdpPeers};
+use crate::places::{at, come, frame, free, is_quiet, peers_of, sends};
 use bytes::Bytes;
 use cb_history::Outgoing;
 use cb_links::{Inlet, LinkFault, Outlet, Received, WaitingInlet};
+use cb_remote::{MakeFault, UdpPeerInlet, UdpPeerOutlet, UdpPeers};
 use std::alloc::Global;
 use std::net::{Net, SocketAddr, UdpSocket};
 use std::process::Abort;

@@ -2,7 +2,7 @@
 
 ghost use Rattle.std.specs.Prelude.{◌≡◌};
 
-use crate::{Disagreement, HELLO_LENGTH, Hello, Terms};
+use cb_peers::{Disagreement, HELLO_LENGTH, Hello, Terms};
 use std::process::Abort;
 use std::test::*;
 

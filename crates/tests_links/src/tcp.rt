@@ -2,11 +2,11 @@
 
 ghost use Rattle.std.specs.Prelude.{◌≡◌};
 
-use super::places::{at, free, peers_of, size_of};
-use crate::{Disagreement, MakeFault, Refusal, TcpPeerInlet, TcpPeerOutlet, TcpPeers};
+use crate::places::{at, free, peers_of, size_of};
 use bytes::Bytes;
 use cb_history::{Group, Outgoing};
 use cb_links::{Inlet, LinkFault, Outlet, Received, WaitingInlet};
+use cb_remote::{Disagreement, MakeFault, Refusal, TcpPeerInlet, TcpPeerOutlet, TcpPeers};
 use std::alloc::Global;
 use std::io::{Read, Write};
 use std::net::{Net, SocketAddr, TcpStream};

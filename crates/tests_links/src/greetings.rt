@@ -2,11 +2,11 @@
 
 ghost use Rattle.std.specs.Prelude.{◌≡◌};
 
-use super::places::{at, free};
-use super::tcp::{ALL, a_while, come, link, link_in, sends};
-use crate::{Disagreement, Refusal, TcpPeerInlet};
+use crate::places::{at, free};
+use crate::tcp::{ALL, a_while, come, link, link_in, sends};
 use cb_history::Group;
 use cb_links::{Received, WaitingInlet};
+use cb_remote::{Disagreement, Refusal, TcpPeerInlet};
 use std::alloc::Global;
 use std::io::{ErrorKind, Read, Write};
 use std::net::{Net, Shutdown, SocketAddr, TcpListener, TcpStream};

@@ -2,7 +2,7 @@
 
 ghost use Rattle.std.specs.Prelude.{◌≡◌};
 
-use crate::{Attempts, LONGEST_PAUSE};
+use cb_peers::{Attempts, LONGEST_PAUSE};
 use std::test::*;
 
 #[test]

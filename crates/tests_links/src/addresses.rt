@@ -2,7 +2,7 @@
 
 ghost use Rattle.std.specs.Prelude.{◌≡◌};
 
-use crate::{MakeFault, Peers};
+use cb_peers::{MakeFault, Peers};
 use std::io;
 use std::net::{IpAddr, Ipv6Addr, SocketAddr};
 use std::test::*;
