@@ -1,5 +1,5 @@
 #!/usr/bin/env bash
-# Measures a proved group in threads (`crates/bench_group`) against a plain Rust program of the same protocol, over channels with window
+# Measures a proved group in threads (`crates/bench`, group) against a plain Rust program of the same protocol, over channels with window
 # 64 and over UDP and TCP on the loopback address with window 16, payloads of 32 bytes.
 #   group.sh             processor time for each delivery, deliveries for each second, and which part of the cast frames that came were
 #                        repeats; runs of some 200,000 deliveries and more, the best of three by processor time. The plain program is
@@ -14,8 +14,7 @@
 # differ from run to run; one that takes more than two minutes is no run. System calls are counted by the system for perf (Debian's
 # package linux-perf), at full speed; where it can't, by strace (package strace), which stops the threads at each call. Where there is no
 # valgrind, or neither of these, the column is left out.
-# It wants rustc, python3, and the proved program: `rt run` in crates/bench_group leaves it in crates/bench_group/out.
-# PROVED=FILE measures another build.
+# It wants rustc, python3, and the proved program: bench/alone.sh leaves it in bench/out. PROVED=FILE measures another build.
 set -eu
 here=$(cd "$(dirname "$0")" && pwd)
 work=$(mktemp -d)
@@ -25,13 +24,13 @@ if [ "${1:-}" = count ] || [ "${1:-}" = burst ]; then
     how=$1
     shift
 fi
-proved=${PROVED:-$here/../crates/bench_group/out/bench_group}
-[ -x "$proved" ] || (cd "$here/../crates/bench_group" && rt run -- 3 4 5 20 channel > /dev/null)
+proved=${PROVED:-$here/out/group}
+[ -x "$proved" ] || "$here/alone.sh" group 3 4 5 20 channel > /dev/null
 rustc --edition 2021 -O -o "$work/plain" "$here/plain_group.rs"
 python3 - "$work/plain" "$proved" "$how" "${1:-1}" <<'END'
 import os, re, shutil, subprocess, sys, time
 
-plain, proved, how, divisor = sys.argv[1], sys.argv[2], sys.argv[3], int(sys.argv[4])
+plain, proved, how, divisor = [sys.argv[1]], [sys.argv[2], "group"], sys.argv[3], int(sys.argv[4])
 links = [("channel", 64), ("udp", 16), ("tcp", 16)]
 sizes = [(3, 34_000), (8, 3_600), (16, 900)]
 if how == "count":
@@ -54,13 +53,13 @@ def measure(program, words):
     best = None
     for _ in range(3):
         begun = time.monotonic()
-        process = subprocess.Popen([program, *words], stdout=subprocess.PIPE)
+        process = subprocess.Popen([*program, *words], stdout=subprocess.PIPE)
         printed = process.stdout.read().decode().split()
         _, status, usage = os.wait4(process.pid, 0)
         elapsed = time.monotonic() - begun
         process.returncode = os.waitstatus_to_exitcode(status)
         if process.returncode != 0:
-            sys.exit(f"{program} {' '.join(words)} ended with {process.returncode}")
+            sys.exit(f"{' '.join([*program, *words])} ended with {process.returncode}")
         deliveries, arrivals = int(printed[1]), int(printed[3])
         spent = usage.ru_utime + usage.ru_stime
         run = (1e6 * spent / deliveries, 1e6 * elapsed / deliveries, arrivals / deliveries, deliveries)
@@ -123,10 +122,10 @@ def count(counter, link, size, window, casts):
     words = words_of(link, size, window, casts)
     least = []
     for program in [plain, proved]:
-        runs = [run for run in (count_once(counter, [program, *words]) for _ in range(3)) if run is not None]
+        runs = [run for run in (count_once(counter, [*program, *words]) for _ in range(3)) if run is not None]
         deliveries = size * (size - 1) * casts
         if any(int(printed.split()[1]) != deliveries for printed, _ in runs):
-            sys.exit(f"{program} {' '.join(words)}: not {deliveries} deliveries in {runs}")
+            sys.exit(f"{' '.join([*program, *words])}: not {deliveries} deliveries in {runs}")
         least.append(min(number for _, number in runs) / deliveries if runs else float("nan"))
     return *least, least[1] / least[0]
 

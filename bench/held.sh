@@ -1,37 +1,36 @@
 #!/usr/bin/env bash
 # Counts the instructions (callgrind) of deliveries at a member of a group of 64 while messages wait: of the proved member
-# (`crates/bench_held`), and of a queue in plain Rust that looks at all that it holds. What is told is the difference between 200
+# (`crates/bench`, held), and of a queue in plain Rust that looks at all that it holds. What is told is the difference between 200
 # deliveries and 100, for one cast and its arrival where each is delivered alone, and for two where the later one comes first, so that
 # the other lets it go; these are taken by `receive`, and by `arrive`, and the last row says how many times as much `arrive` costs.
 # Then the most memory that the proved program has at once (dhat, bytes), for 200 deliveries where most wait: with fewer it is that of
 # making the casts, where it has two members.
-# It wants rustc, python3, valgrind, and the proved program: `rt run` in crates/bench_held leaves it in crates/bench_held/out.
-# PROVED=FILE measures another build.
+# It wants rustc, python3, valgrind, and the proved program: bench/alone.sh leaves it in bench/out. PROVED=FILE measures another build.
 set -eu
 here=$(cd "$(dirname "$0")" && pwd)
 work=$(mktemp -d)
 trap 'rm -rf "$work"' EXIT
-proved=${PROVED:-$here/../crates/bench_held/out/bench_held}
-[ -x "$proved" ] || (cd "$here/../crates/bench_held" && rt run -- 1000 100 alone > /dev/null)
+proved=${PROVED:-$here/out/held}
+[ -x "$proved" ] || "$here/alone.sh" held 1000 100 alone > /dev/null
 rustc --edition 2021 -O -C target-cpu=x86-64-v2 -o "$work/plain" "$here/plain_held.rs"
 python3 - "$proved" "$work/plain" <<'END'
 import concurrent.futures, os, re, subprocess, sys
 
 proved, plain = sys.argv[1:3]
 held = [1, 10, 100, 1_000, 4_000, 15_616]
-# its name, the program, its last words, and how many deliveries are told together
+# its name, the program and its first word, its last words, and how many deliveries are told together
 rows = [
-    ("alone", proved, ["alone"], 1),
-    ("two, receive", proved, ["receive"], 2),
-    ("two, arrive", proved, ["arrive"], 2),
-    ("looks at all", plain, [], 1),
+    ("alone", [proved, "held"], ["alone"], 1),
+    ("two, receive", [proved, "held"], ["receive"], 2),
+    ("two, arrive", [proved, "held"], ["arrive"], 2),
+    ("looks at all", [plain], [], 1),
 ]
 
 
 def told(tool, row, waiting, deliveries):
     """What valgrind says of a run that prints what it should."""
     name, program, words, _ = row
-    command = ["valgrind", *tool, program, str(waiting), str(deliveries), *words]
+    command = ["valgrind", *tool, *program, str(waiting), str(deliveries), *words]
     done = subprocess.run(command, capture_output=True, text=True)
     if done.returncode != 0 or done.stdout != f"held {waiting} delivered {deliveries}\n":
         sys.exit(f"{name}, {waiting}: {done.stdout}{done.stderr}")

@@ -1,19 +1,18 @@
 #!/usr/bin/env bash
-# Counts what a journal costs (`crates/bench_journal`): a group in one thread, in which nothing is lost and every member casts a payload of
+# Counts what a journal costs (`crates/bench`, journal): a group in one thread, in which nothing is lost and every member casts a payload of
 # 32 bytes in each round. Told are the instructions (callgrind) of a delivery at 3 and at 16 members, each the difference between two
-# runs: where no journal is kept, where each member keeps one in memory, in a file, and in a file that is synced behind each entry; with
+# runs: where no journal is kept, where each member keeps one in memory, in a file, and in a file that is synced after each entry; with
 # the ratio to the first. Then how long a sync takes on this machine's clock, where the files are: the difference of the last two.
 # Then how a journal grows: the bytes of the lines of messages are to be what a formula says, for payloads of 0, 32 and 1,024 bytes. At
 # last what it costs to come back by one: the instructions of an entry, and how many entries a second.
-# It wants python3, valgrind, and the proved program: `rt run` in crates/bench_journal leaves it in crates/bench_journal/out.
-# PROVED=FILE measures another build. FOLDER=FOLDER is where the files go, else the usual place of temporary ones. It takes a minute or
+# It wants python3, valgrind, and the proved program: bench/alone.sh leaves it in bench/out. PROVED=FILE measures another build. FOLDER=FOLDER is where the files go, else the usual place of temporary ones. It takes a minute or
 # two, and three more where a sync takes some milliseconds: it makes 20,000, since runs that sync are shorter than the others.
 set -eu
 here=$(cd "$(dirname "$0")" && pwd)
 work=$(mktemp -d -p "${FOLDER:-${TMPDIR:-/tmp}}")
 trap 'rm -rf "$work"' EXIT
-proved=${PROVED:-$here/../crates/bench_journal/out/bench_journal}
-[ -x "$proved" ] || (cd "$here/../crates/bench_journal" && rt run -- 3 5 20 memory > /dev/null)
+proved=${PROVED:-$here/out/journal}
+[ -x "$proved" ] || "$here/alone.sh" journal 3 5 20 memory > /dev/null
 cd "$work"
 python3 - "$proved" <<'END_OF_PYTHON'
 import pathlib, re, subprocess, sys, time
@@ -30,7 +29,7 @@ NUMBER = 7
 
 def run(tool, size, payload, rounds, way):
     """What the tool says of a run, how many messages it delivered, and how many entries the first member has."""
-    command = [*tool, proved, str(size), str(payload), str(rounds), way]
+    command = [*tool, proved, "journal", str(size), str(payload), str(rounds), way]
     done = subprocess.run(command, capture_output=True, text=True)
     said = re.fullmatch(r"deliveries (\d+) entries (\d+)\n", done.stdout)
     if done.returncode != 0 or not said:

@@ -1,4 +1,4 @@
-//! A group of causal broadcast members in threads, in plain Rust with std alone and no proof: what the proved group (`crates/bench_group`) is
+//! A group of causal broadcast members in threads, in plain Rust with std alone and no proof: what the proved group (`crates/bench`, group) is
 //! measured against. Words: SIZE WINDOW PAYLOAD CASTS LINK BURST, CASTS of each member, LINK `channel`, `udp` or `tcp`.
 //!
 //! With a BURST of 2 to 32, over channels or UDP, so many messages are cast at once where the window has room for all of them, and their frames

@@ -1,5 +1,5 @@
 //! What a delivery costs a delay queue that looks at all that it holds, in plain Rust with std alone. Words: HELD DELIVERIES, as those of
-//! `crates/bench_held`: most members' messages wait for one of member 0, and those of one more member are delivered as they come.
+//! `crates/bench`, held: most members' messages wait for one of member 0, and those of one more member are delivered as they come.
 
 use std::collections::VecDeque;
 use std::env;

@@ -1,14 +1,13 @@
 #!/usr/bin/env bash
-# Counts the instructions (callgrind) with which a `FrameReader` reads a byte of a stream of small frames (`crates/bench_stream`), at
+# Counts the instructions (callgrind) with which a `FrameReader` reads a byte of a stream of small frames (`crates/bench`, stream), at
 # 100 KB and at 1 MB, in pieces of 1 byte, of 13, which end within most frames, and of 4,096. What is told is the difference to the same
 # program that makes the stream and reads none of it; how many times as much it is at 1 MB as at 100 KB; and, at 1 MB, how many times as
 # much as in pieces of 4,096.
-# It wants python3, valgrind, and the proved program: `rt run` in crates/bench_stream leaves it in crates/bench_stream/out.
-# PROVED=FILE measures another build.
+# It wants python3, valgrind, and the proved program: bench/alone.sh leaves it in bench/out. PROVED=FILE measures another build.
 set -eu
 here=$(cd "$(dirname "$0")" && pwd)
-proved=${PROVED:-$here/../crates/bench_stream/out/bench_stream}
-[ -x "$proved" ] || (cd "$here/../crates/bench_stream" && rt run -- 1000 7 > /dev/null)
+proved=${PROVED:-$here/out/stream}
+[ -x "$proved" ] || "$here/alone.sh" stream 1000 7 > /dev/null
 python3 - "$proved" <<'END'
 import concurrent.futures, os, re, subprocess, sys
 
@@ -19,7 +18,7 @@ pieces = [1, 13, 4_096]
 
 
 def counted(length, piece):
-    words = [program, str(length), str(piece)]
+    words = [program, "stream", str(length), str(piece)]
     read = length if piece else 0
     done = subprocess.run(["valgrind", "--tool=callgrind", "--callgrind-out-file=/dev/null", *words], capture_output=True, text=True)
     if done.returncode != 0 or done.stdout != f"bytes {read} frames {read // frame}\n":

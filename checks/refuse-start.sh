@@ -3,8 +3,8 @@
 # in turn. A member or a worker that is refused can't be started, and nobody else may go on without it to the last turn, which is hours
 # away: each run has a minute, and ends with status 0, 3 or 5.
 #   checks/refuse-start.sh                     `confer run` of three members
-#   checks/refuse-start.sh PROGRAM WORD..      another one, as crates/bench_group/out/bench_group 3 64 32 20 channel
-# It wants a C compiler and the proved program: `rt run` in crates/confer or crates/bench_group leaves it in the folder out there.
+#   checks/refuse-start.sh PROGRAM WORD..      another one, as crates/bench/out/bench group 3 64 32 20 channel
+# It wants a C compiler and the proved program: `rt run` in crates/confer or crates/bench leaves it in the folder out there.
 # THREADS is how many are refused, a member's own and those of its four workers: 15, as of three members, if not said. GROWTHS is how
 # many growths are, 150 if not said: more than it takes to start all. GROWTHS=0 refuses threads alone, as of a program of the trial build, which
 # has a malloc of its own.

@@ -1,5 +1,5 @@
 #!/usr/bin/env bash
-# Soaks groups of 3 and of 8 members in threads (`crates/bench_soak`), over channels, UDP and TCP: of a hundred frames that come to a member ten
+# Soaks groups of 3 and of 8 members in threads (`crates/bench`, soak), over channels, UDP and TCP: of a hundred frames that come to a member ten
 # are lost, five come once more and ten are held back by up to 100 milliseconds, and 1 to 50 milliseconds lie between two ticks. All is drawn by a
 # fixed generator; what the threads make of it is not fixed. Messages go in bursts.
 #   checks/soak.sh [MINUTES]
@@ -8,11 +8,11 @@
 # descriptor may be left. The most memory that the process had until the audit must be what docs/GUIDE.md says of a group in threads, to 10 % up
 # or down; memory are the anonymous pages. Behind each third run comes one whose histories get full: it ends when its turns are used up, its
 # talkers were shown nothing that is not in a history, and its audit says yes. At the end it says what each kind of group did in all.
-# It wants python3 and the proved program: `rt run` in crates/bench_soak leaves it in crates/bench_soak/out. SOAKED=FILE takes another build.
+# It wants python3 and the proved program: `rt run` in crates/bench leaves it in crates/bench/out. SOAKED=FILE takes another build.
 set -eu
 top=$(cd "$(dirname "$0")/.." && pwd)
-soaked=${SOAKED:-$top/crates/bench_soak/out/bench_soak}
-[ -x "$soaked" ] || (cd "$top/crates/bench_soak" && rt run -- 3 4 5 20 channel 4 1 100000 1000000 < /dev/null > /dev/null)
+soaked=${SOAKED:-$top/crates/bench/out/bench}
+[ -x "$soaked" ] || (cd "$top/crates/bench" && rt run -- soak 3 4 5 20 channel 4 1 100000 1000000 < /dev/null > /dev/null)
 exec python3 - "$soaked" "${1:-60}" <<'END_OF_PYTHON'
 import os, re, select, subprocess, sys, time
 
@@ -59,7 +59,7 @@ def left_by(pid):
 
 def soak(size, link, seed, casts, window=window, history_max=longest_history, turns=every_turn):
     """What the program counted, with its peak memory, what it left and whether the audit says yes; nothing where it failed."""
-    words = [str(word) for word in (size, window, payload, casts, link, burst, seed, history_max, turns, "all")]
+    words = [str(word) for word in ("soak", size, window, payload, casts, link, burst, seed, history_max, turns, "all")]
     began = time.monotonic()
     process = subprocess.Popen([program, *words], stdin=subprocess.PIPE, stdout=subprocess.PIPE)
     peak = 0

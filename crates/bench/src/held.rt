@@ -1,11 +1,68 @@
-//! A member that misses one cast for which most others wait.
+//! A member of 64 that misses one cast for which most others wait. Then one more member casts, of whom each cast is delivered as it comes,
+//! or each second one lets the one after it go.
 
-use crate::plan::{Plan, Way};
+use crate::fault::Fault;
+use crate::member::{arrive, cast, member_of, receive};
+use crate::words::number;
 use bytes::Bytes;
-use cb_history::{ArriveRefusal, CastDone, Group, LONGEST_HISTORY};
+use cb_history::Group;
 use cb_member::Member;
 use cb_times::NoMemory;
 use std::alloc::{AllocError, Global};
+use std::process::ExitCode;
+
+/// The number of the group, which only the frames say.
+const NUMBER: u32 = 7;
+
+const SIZE: u32 = 64;
+
+const WINDOW: u32 = 256;
+
+/// As many as 61 members cast that miss nothing.
+const MOST_HELD: u32 = 15_616;
+
+/// How what is delivered comes.
+#[derive(Clone, Copy, Drop)]
+enum Way {
+    /// Each cast in its turn, to `receive`: it is delivered alone.
+    Alone,
+    /// Two by two, the later one first, to `receive`: the other one lets it go.
+    Receive,
+    /// The same to `arrive`.
+    Arrive,
+}
+
+/// So many messages wait, and so many more are delivered then.
+#[derive(Clone, Copy, Drop)]
+struct Plan {
+    group: Group,
+    held: u32,
+    casts: u32,
+    way: Way,
+}
+
+fn plan_of(words: &[String]) -> Option<Plan> {
+    let group = Group::new(NUMBER, SIZE, WINDOW).ok()?;
+    let (held, casts) = (number(words, 2)?, number(words, 3)?);
+    if held > MOST_HELD || casts > WINDOW {
+        return None;
+    }
+    Some(Plan {
+        group,
+        held,
+        casts,
+        way: way_in(words.get(4)?.as_str())?,
+    })
+}
+
+fn way_in(word: &str) -> Option<Way> {
+    match word {
+        "alone" => Some(Way::Alone),
+        "receive" => Some(Way::Receive),
+        "arrive" => Some(Way::Arrive),
+        _ => None,
+    }
+}
 
 /// Whose first cast the receiver never gets.
 const LOST: u32 = 0;
@@ -17,52 +74,24 @@ const RECEIVER: u32 = 63;
 
 /// How many messages wait, and how many were delivered.
 #[derive(Clone, Copy, Drop)]
-pub struct Outcome {
-    pub held: usize,
-    pub delivered: usize,
-}
-
-fn member_of(alloc: Global, group: Group, me: u32) -> Result<Member, NoMemory> {
-    // member and limit are in range, so that only memory can be wanting
-    let Ok(member) = Member::new(alloc, group, me, LONGEST_HISTORY) else {
-        return Err(AllocError);
-    };
-    Ok(member)
+struct Outcome {
+    held: usize,
+    delivered: usize,
 }
 
 /// The frame of one more cast.
 fn frame_of(sender: &mut Member) -> Result<Bytes, NoMemory> {
     // the window is not full, so that only memory can be wanting
-    let Ok(done) = sender.cast(b"waits") else {
-        return Err(AllocError);
-    };
-    let CastDone { name: _, time, out } = done;
-    drop(time);
-    Ok(out)
+    match cast(sender, b"waits")? {
+        Some(frame) => Ok(frame),
+        None => Err(AllocError),
+    }
 }
 
 /// The sender casts so often: the frames.
 fn cast_all(sender: &mut Member, casts: u32, frames: &mut Vec<Bytes>) -> Result<(), NoMemory> {
     for _ in 0..casts {
         frames.push(frame_of(sender)?)?;
-    }
-    Ok(())
-}
-
-fn receive(member: &mut Member, bytes: &Bytes) -> Result<(), NoMemory> {
-    match member.receive(bytes) {
-        Ok(received) => drop(received),
-        Err(ArriveRefusal::NoMemory) => return Err(AllocError),
-        Err(_) => {}
-    }
-    Ok(())
-}
-
-fn arrive(member: &mut Member, bytes: &Bytes) -> Result<(), NoMemory> {
-    match member.arrive(bytes) {
-        Ok(arrival) => drop(arrival),
-        Err(ArriveRefusal::NoMemory) => return Err(AllocError),
-        Err(_) => {}
     }
     Ok(())
 }
@@ -173,9 +202,19 @@ fn run(alloc: Global, plan: &Plan, receiver: &mut Member) -> Result<Outcome, NoM
 }
 
 /// Lets so many messages wait, and delivers so many.
-pub fn outcome_of(alloc: Global, plan: &Plan) -> Result<Outcome, NoMemory> {
+fn outcome_of(alloc: Global, plan: &Plan) -> Result<Outcome, NoMemory> {
     let mut receiver = member_of(alloc, plan.group, RECEIVER)?;
     let outcome = run(alloc, plan, &mut receiver);
     drop(receiver);
     outcome
+}
+
+/// Runs what the words order, and prints how many wait and how many were delivered.
+pub fn print(rt: &HostRuntime, words: &[String]) -> Result<ExitCode, Fault> {
+    let Some(plan) = plan_of(words) else {
+        return Err(Fault::HeldWords);
+    };
+    let Outcome { held, delivered } = outcome_of(rt.alloc(), &plan)?;
+    println!(rt; "held {held} delivered {delivered}")?;
+    Ok(ExitCode::from(0))
 }

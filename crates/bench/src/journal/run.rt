@@ -1,14 +1,15 @@
 //! The members, and what they do in their turns.
 
-use crate::desk::{Desk, member_of};
 use crate::fault::Fault;
-use crate::plan::Plan;
-use crate::shelf::Shelf;
+use crate::journal::desk::Desk;
+use crate::journal::plan::Plan;
+use crate::journal::shelf::Shelf;
+use crate::member::member_of;
 use bytes::Bytes;
 use cb_history::{Group, Outgoing};
 use cb_journal::Device;
 
-/// All tick behind so many rounds: long before a window is full.
+/// All tick after so many rounds: long before a window is full.
 const ROUNDS_A_TICK: u32 = 16;
 
 /// What was delivered by all, and how many entries the first member has.
@@ -77,7 +78,7 @@ fn desk_of<D: Shelf>(
     Desk::new(rt.alloc(), member_of(rt.alloc(), group, me)?, device)
 }
 
-/// In each round each member casts, and all others take that; behind some rounds all tick. How many messages were delivered.
+/// In each round each member casts, and all others take that; after some rounds all tick. How many messages were delivered.
 fn rounds<D: Device + Drop>(
     desks: &mut [Desk<D>],
     count: u32,

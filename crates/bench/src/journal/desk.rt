@@ -1,10 +1,11 @@
 //! A member, and its journal.
 
 use crate::fault::Fault;
+use crate::member::{cast, receive, tick};
 use bytes::Bytes;
-use cb_history::{ArriveRefusal, CastRefusal, Group, LONGEST_HISTORY, Outgoing, TickRefusal};
+use cb_history::Outgoing;
 use cb_journal::{Device, JournalWriter};
-use cb_member::{Member, Received};
+use cb_member::Member;
 use std::alloc::Global;
 
 /// A member, and its journal where one is kept.
@@ -14,14 +15,6 @@ pub struct Desk<D> {
     journal: Option<JournalWriter<D>>,
     /// How many entries stand in the journal.
     kept: usize,
-}
-
-pub fn member_of(alloc: Global, group: Group, me: u32) -> Result<Member, Fault> {
-    // member and limit are in range, so that only memory can be wanting
-    match Member::new(alloc, group, me, LONGEST_HISTORY) {
-        Ok(member) => Ok(member),
-        Err(_fault) => Err(Fault::NoMemory),
-    }
 }
 
 impl<D: Device + Drop> Desk<D> {
@@ -45,34 +38,21 @@ impl<D: Device + Drop> Desk<D> {
 
     /// The frame of one more cast; none where a rule refuses it.
     pub fn cast(&mut self, payload: &[u8]) -> Result<Option<Bytes>, Fault> {
-        let frame = match self.member.cast(payload) {
-            Ok(done) => done.out,
-            Err(CastRefusal::NoMemory) => return Err(Fault::NoMemory),
-            Err(_refusal) => return Ok(None),
-        };
+        let frame = cast(&mut self.member, payload)?;
         self.keep()?;
-        Ok(Some(frame))
+        Ok(frame)
     }
 
     /// How many messages are delivered by this frame.
     pub fn take(&mut self, frame: &Bytes) -> Result<u64, Fault> {
-        let delivered = match self.member.receive(frame) {
-            Ok(Received::Accepted { delivered, .. }) => delivered,
-            Err(ArriveRefusal::NoMemory) => return Err(Fault::NoMemory),
-            _ => return Ok(0),
-        };
+        let delivered = receive(&mut self.member, frame)?;
         self.keep()?;
         Ok(delivered as u64)
     }
 
     /// What a tick sends.
     pub fn tick(&mut self) -> Result<Vec<Outgoing>, Fault> {
-        let out = match self.member.tick() {
-            Ok(ticked) => ticked.out,
-            Err(TickRefusal::NoMemory) | Err(TickRefusal::HistoryFull) => {
-                return Err(Fault::NoMemory);
-            }
-        };
+        let out = tick(&mut self.member)?;
         self.keep()?;
         Ok(out)
     }

@@ -1,5 +1,6 @@
-//! What the words say of the run.
+//! What the words say of a group in threads.
 
+use crate::words::number;
 use cb_frames::{LONGEST_PAYLOAD, MOST_MESSAGES};
 use cb_history::Group;
 
@@ -23,37 +24,36 @@ pub struct Plan {
     pub link: LinkKind,
     /// How many messages are gathered into a burst, no more than the window; 1 for casts alone.
     pub burst: usize,
-    /// What the course of losses and ticks comes from.
-    pub seed: u64,
-    /// How many entries each history may have.
-    pub history_max: usize,
-    /// How many turns each worker makes at most.
-    pub turns: u64,
 }
 
-/// The plan that the words say, of which the first is the program's name.
+/// The plan that the third word and those after it say.
 pub fn plan_of(words: &[String]) -> Option<Plan> {
-    let (size, window) = (number(words, 1)?, number(words, 2)?);
+    let (size, window) = (number(words, 2)?, number(words, 3)?);
     let group = Group::new(NUMBER, size, window).ok()?;
-    let payload = number(words, 3)? as usize;
-    let burst = number(words, 6)?;
-    if payload > LONGEST_PAYLOAD || burst > window || !is_burst(burst) {
+    let payload = number(words, 4)? as usize;
+    let burst = burst_of(words)?;
+    if payload > LONGEST_PAYLOAD || burst > window {
         return None;
     }
     Some(Plan {
         group,
         payload,
-        casts: number(words, 4)?,
-        link: link_kind(words.get(5)?.as_str())?,
+        casts: number(words, 5)?,
+        link: link_kind(words.get(6)?.as_str())?,
         burst: burst as usize,
-        seed: u64::from(number(words, 7)?),
-        history_max: number(words, 8)? as usize,
-        turns: u64::from(number(words, 9)?),
     })
 }
 
-fn is_burst(burst: u32) -> bool {
-    burst > 0 && burst as usize <= MOST_MESSAGES
+/// The word after the link, where there is one.
+fn burst_of(words: &[String]) -> Option<u32> {
+    if words.len() <= 7 {
+        return Some(1);
+    }
+    let burst = number(words, 7)?;
+    if burst == 0 || burst as usize > MOST_MESSAGES {
+        return None;
+    }
+    Some(burst)
 }
 
 fn link_kind(word: &str) -> Option<LinkKind> {
@@ -63,8 +63,4 @@ fn link_kind(word: &str) -> Option<LinkKind> {
         "tcp" => Some(LinkKind::Tcp),
         _ => None,
     }
-}
-
-fn number(words: &[String], place: usize) -> Option<u32> {
-    words.get(place)?.as_str().parse::<u32>().ok()
 }

@@ -1,6 +1,7 @@
 //! What is counted of all members.
 
-use crate::parts::{Caster, Uneven};
+use crate::caster::Caster;
+use crate::soak::Uneven;
 use cb_member::Entry;
 use cb_threads::{Gathering, MemberReport};
 use std::fmt;

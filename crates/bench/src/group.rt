@@ -1,34 +1,80 @@
-//! The group, run.
+//! A whole group in threads, which ends when each member has seen all messages. `bench/plain_group.rs` is the same in plain Rust.
 
+ghost use Rattle.std.specs.Prelude.{◌≡◌};
+
+use crate::caster::Caster;
 use crate::fault::Fault;
-use crate::parts::{Caster, Counting};
-use crate::plan::{LinkKind, Plan};
+use crate::plan::{LinkKind, Plan, plan_of};
 use cb_member::LONGEST_HISTORY;
 use cb_threads::{
-    ChannelLink, Every, Gathering, GroupReport, Inlet, Limits, MemberReport, Outlet, TcpLink,
-    UdpLink, run_group,
+    ChannelLink, Every, Gathering, GroupReport, Inlet, Limits, LinkFault, MemberReport, Outlet,
+    Received, TcpLink, UdpLink, run_group,
 };
 use std::alloc::Global;
 use std::net::{Net, TcpListener, TcpStream};
+use std::process::ExitCode;
 use std::sync::Wait;
 use std::thread::Threads;
 use std::time::{Clock, Duration};
+
+/// The first bytes of cast frames, of one message and of several.
+const CASTS: [u8; 2] = [0x11, 0x21];
+
+/// An inlet that counts the cast frames that it receives.
+#[derive(Drop)]
+pub struct Counting<I> {
+    pub inner: I,
+    pub casts: u64,
+}
+
+impl<I: Inlet> Inlet for Counting<I> {
+    ghost failed = { λ c. I.failed c.inner };
+
+    fn failures(&self) -> u64 {
+        self.inner.failures()
+    }
+
+    fn receive<R: Wait + Clock>(&mut self, rt: &R) -> Result<Received, LinkFault> {
+        let received = self.inner.receive(rt);
+        if is_cast(&received) {
+            self.casts = self.casts.saturating_add(1);
+        }
+        received
+    }
+
+    fn close(&mut self) {
+        self.inner.close();
+    }
+}
+
+fn is_cast(received: &Result<Received, LinkFault>) -> bool {
+    match received {
+        Ok(Received::Frame(frame)) => frame
+            .as_slice()
+            .first()
+            .is_some_and(|kind| CASTS.contains(kind)),
+        _ => false,
+    }
+}
 
 /// The outcome of a run.
 #[derive(Clone, Copy)]
 pub struct Ran {
     /// The messages of others that were delivered.
-    pub deliveries: u64,
+    deliveries: u64,
     /// The received cast frames, of which those above the deliveries are repeats.
-    pub arrivals: u64,
+    arrivals: u64,
 }
 
-/// Runs the group until each member has seen every message.
+/// Runs the group that the words order until each member has seen every message.
 pub fn run<R: Threads + Wait + Clock + Net<Listener = TcpListener, Stream = TcpStream> + Sync>(
     rt: &R,
     alloc: Global,
-    plan: Plan,
+    words: &[String],
 ) -> Result<Ran, Fault> {
+    let Some(plan) = plan_of(words) else {
+        return Err(Fault::GroupWords);
+    };
     match plan.link {
         LinkKind::Channel => {
             let links = ChannelLink::group(alloc, plan.group.size())?;
@@ -51,7 +97,7 @@ fn run_over<I: Inlet + Send + Drop, O: Outlet + Send + Drop, R: Threads + Wait +
     plan: Plan,
     links: Vec<(I, O)>,
 ) -> Result<Ran, Fault> {
-    let links = counting(alloc, links)?;
+    let links = with_counts(alloc, links)?;
     let mut paces = Vec::new(alloc);
     let mut talkers = Vec::new(alloc);
     for _member in 0..plan.group.size() {
@@ -74,7 +120,7 @@ fn run_over<I: Inlet + Send + Drop, O: Outlet + Send + Drop, R: Threads + Wait +
     }
 }
 
-fn counting<I: Drop, O: Drop>(
+fn with_counts<I: Drop, O: Drop>(
     alloc: Global,
     links: Vec<(I, O)>,
 ) -> Result<Vec<(Counting<I>, O)>, Fault> {
@@ -102,4 +148,14 @@ fn arrivals<I, O>(report: &MemberReport<Counting<I>, O, Every, Gathering<Caster>
         Some(inlet) => inlet.casts,
         None => 0,
     }
+}
+
+/// Prints how many messages were delivered, and with all also how many cast frames were received, repeats among them.
+pub fn print(rt: &HostRuntime, ran: Ran, with_all: bool) -> Result<ExitCode, Fault> {
+    if with_all {
+        println!(rt; "deliveries {} arrivals {}", ran.deliveries, ran.arrivals)?;
+    } else {
+        println!(rt; "deliveries {}", ran.deliveries)?;
+    }
+    Ok(ExitCode::from(0))
 }

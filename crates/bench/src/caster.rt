@@ -1,43 +1,9 @@
-//! What the members run with.
+//! Who casts in a group in threads.
 
-ghost use Rattle.std.specs.Prelude.{◌≡◌};
-
-use crate::lossy::Chance;
 use crate::plan::Plan;
 use cb_member::{Event, NoMemory};
-use cb_threads::{Pace, PaceFault, Talk, Talker};
+use cb_threads::{Talk, Talker};
 use std::alloc::Global;
-use std::sync::Wait;
-use std::thread::sleep;
-use std::time::Clock;
-
-/// Between two ticks there are so many milliseconds at most.
-const SLOWEST: u64 = 50;
-
-/// One to fifty milliseconds between two ticks.
-#[derive(Drop)]
-pub struct Uneven {
-    chance: Chance,
-}
-
-impl Uneven {
-    pub fn new(chance: Chance) -> Uneven {
-        Uneven { chance }
-    }
-}
-
-impl Pace for Uneven {
-    ghost failed = { λ pace. 0 };
-
-    fn failures(&self) -> u64 {
-        0
-    }
-
-    fn wait<R: Wait + Clock>(&mut self, rt: &R) -> Result<(), PaceFault> {
-        sleep(rt, self.chance.millis(SLOWEST));
-        Ok(())
-    }
-}
 
 /// Who casts so many messages, and has finished when it has seen those of all.
 #[derive(Drop)]

@@ -1,5 +1,6 @@
 //! What the words say of the run.
 
+use crate::words::number;
 use cb_frames::LONGEST_PAYLOAD;
 use cb_history::Group;
 
@@ -17,7 +18,7 @@ pub enum Way {
     Memory,
     /// A journal of each in a file, which is not made to outlast a crash.
     File,
-    /// A journal of each in a file, which is synced behind each entry.
+    /// A journal of each in a file, which is synced after each entry.
     Sync,
     /// Nothing is run: the member of the journal that is there comes back by it.
     Back,
@@ -32,18 +33,17 @@ pub struct Plan {
     pub way: Way,
 }
 
-/// The plan that the words say, of which the first is the program's name.
 pub fn plan_of(words: &[String]) -> Option<Plan> {
-    let group = Group::new(NUMBER, number(words, 1)?, WINDOW).ok()?;
-    let payload = number(words, 2)? as usize;
+    let group = Group::new(NUMBER, number(words, 2)?, WINDOW).ok()?;
+    let payload = number(words, 3)? as usize;
     if payload > LONGEST_PAYLOAD {
         return None;
     }
     Some(Plan {
         group,
         payload,
-        rounds: number(words, 3)?,
-        way: way_in(words.get(4)?.as_str())?,
+        rounds: number(words, 4)?,
+        way: way_in(words.get(5)?.as_str())?,
     })
 }
 
@@ -56,8 +56,4 @@ fn way_in(word: &str) -> Option<Way> {
         "back" => Some(Way::Back),
         _ => None,
     }
-}
-
-fn number(words: &[String], place: usize) -> Option<u32> {
-    words.get(place)?.as_str().parse::<u32>().ok()
 }
