@@ -5,6 +5,7 @@
 # No part of the gate, where the prover refuses the edits of must-fail. Some 10 seconds an edit; JOBS=2 tries two at a time.
 #   checks/wrong-bodies.sh [CRATE..]      those crates, or all that have such edits
 #   EDITS='NAME ..' checks/wrong-bodies.sh CRATE      those edits alone
+#   checks/wrong-calls.sh      those of cb_handle and jolunza, whose tests are the cases of bindings/c/calls.c
 #   FILL=1 checks/wrong-bodies.sh ..      writes the tests that refuse each, two at most, into the last column of docs/WRONG_BODIES.md
 set -u
 top=$(cd "$(dirname "$0")/.." && pwd)
@@ -51,7 +52,7 @@ tests_of() {
         cb_peers | cb_remote) echo tests_links ;;
         cb_node) echo tests_journal inner-tests ;;
         cb_lines | cb_replay) echo tests_journal tests_group ;;
-        cb_handle) echo jolunza ;;
+        cb_handle | jolunza) ;;
         confer_text | confer_expand | confer_play | confer_audit) echo tests_confer ;;
         *) echo "$1" ;;
     esac
@@ -61,6 +62,10 @@ tests_of() {
 try() {
     local crate=$1 edit=$2 name copy shown refusing of
     name=$(basename "$edit" .edit)
+    if [ -z "$(tests_of "$crate")" ]; then
+        say "$crate $name has-its-test-in-C: see checks/wrong-calls.sh"
+        return 0
+    fi
     copy=$(mktemp -d "$work/copy.XXXXXX")
     cp -r "$work/whole/." "$copy"
     if ! shown=$(perl "$top/checks/apply_edit.pl" "$copy/crates/$crate" "$edit" 2>&1); then

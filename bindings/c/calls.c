@@ -9,13 +9,14 @@
 #include "jolunza.h"
 
 static unsigned passed, failed;
+static const char *now; /* the case */
 
 static void check(bool holds, const char *what, int line)
 {
     passed += holds;
     failed += !holds;
     if (!holds)
-        printf("calls.c:%d: not so: %s\n", line, what);
+        printf("calls.c:%d: %s: not so: %s\n", line, now, what);
 }
 
 #define CHECK(holds) check((holds), #holds, __LINE__)
@@ -182,13 +183,14 @@ static void test_open(void)
     opens(2, 1, 0, 1, JOLUNZA_DONE);
     opens(64, 256, 63, 16777216, JOLUNZA_DONE);
     opens(64, 256, 63, 0, JOLUNZA_DONE);
+    opens(2, 1, 0, 0, JOLUNZA_DONE);
     opens(0, 4, 0, 1, JOLUNZA_BAD_GROUP);
     opens(1, 4, 0, 1, JOLUNZA_BAD_GROUP);
     opens(65, 4, 0, 1, JOLUNZA_BAD_GROUP);
     opens(UINT32_MAX, 4, 0, 1, JOLUNZA_BAD_GROUP);
     opens(3, 0, 0, 1, JOLUNZA_BAD_GROUP);
-    opens(3, 257, 0, 1, JOLUNZA_BAD_GROUP);
-    opens(3, 4, 3, 1, JOLUNZA_BAD_MEMBER);
+    opens(3, 257, 0, 0, JOLUNZA_BAD_GROUP);
+    opens(3, 4, 3, 0, JOLUNZA_BAD_MEMBER);
     opens(3, 4, UINT32_MAX, 1, JOLUNZA_BAD_MEMBER);
     opens(3, 4, 2, 16777217, JOLUNZA_BAD_LIMIT);
     opens(3, 4, 2, SIZE_MAX, JOLUNZA_BAD_LIMIT);
@@ -245,31 +247,53 @@ static void refuses_burst(jolunza_handle *handle, uint32_t code, size_t length, 
 /* The first fault counts. Two casts and the history's one entry are there. */
 static void test_burst_refused(void)
 {
-    static const size_t none[JOLUNZA_MOST_MESSAGES + 1], beyond[] = {1, SIZE_MAX}, one_more[] = {1024, 1};
+    static const size_t none[JOLUNZA_MOST_MESSAGES + 1], beyond[] = {1, SIZE_MAX}, around[] = {SIZE_MAX, 5}, one_more[] = {1024, 1};
     jolunza_handle handle = JOLUNZA_CLOSED_HANDLE;
-    size_t ones[JOLUNZA_MOST_MESSAGES + 1];
+    size_t ones[JOLUNZA_MOST_MESSAGES + 1], longs[JOLUNZA_MOST_MESSAGES];
 
     for (size_t i = 0; i < JOLUNZA_MOST_MESSAGES + 1; i++)
         ones[i] = 1;
+    for (size_t i = 0; i < JOLUNZA_MOST_MESSAGES; i++)
+        longs[i] = 33;
     CHECK(jolunza_open(&handle, GROUP, SIZE, WINDOW, 0, 1) == JOLUNZA_DONE);
     CHECK(cast_burst(&handle, "hiyo", (const size_t[]){2, 2}, 2) == JOLUNZA_DONE);
     refuses_burst(&handle, JOLUNZA_NONE_THERE, 0, ones, 1);
     refuses_burst(&handle, JOLUNZA_NONE_THERE, 32, ones, 33);
     refuses_burst(&handle, JOLUNZA_NONE_THERE, 2, beyond, 2);
+    refuses_burst(&handle, JOLUNZA_NONE_THERE, 4, around, 2);
     refuses_burst(&handle, JOLUNZA_NONE_THERE, 1024, one_more, 2);
     refuses_burst(&handle, JOLUNZA_EMPTY_BURST, 9, none, 0);
     refuses_burst(&handle, JOLUNZA_BURST_TOO_LONG, 0, none, 33);
     refuses_burst(&handle, JOLUNZA_BURST_TOO_LONG, 33, ones, 33);
     refuses_burst(&handle, JOLUNZA_PAYLOAD_TOO_LONG, 1025, one_more, 2);
+    refuses_burst(&handle, JOLUNZA_PAYLOAD_TOO_LONG, 1056, longs, 32);
     refuses_burst(&handle, JOLUNZA_WINDOW_FULL, 0, none, 3);
     refuses_burst(&handle, JOLUNZA_WINDOW_FULL, 32, ones, 32);
     refuses_burst(&handle, JOLUNZA_HISTORY_FULL, 0, none, 2);
     refuses_burst(&handle, JOLUNZA_HISTORY_FULL, 1025, one_more, 1);
     jolunza_close(&handle);
-    CHECK(jolunza_open(&handle, GROUP, SIZE, 256, 0, 1) == JOLUNZA_DONE);
-    CHECK(jolunza_cast_burst(&handle, (const uint8_t *)"", 0, none, JOLUNZA_MOST_MESSAGES) == JOLUNZA_DONE);
-    CHECK(counts(&handle, 1, JOLUNZA_MOST_MESSAGES, 1));
+}
+
+/* As many messages without bytes as the window has room for, or as a burst may have, and not one more. */
+static void fills_window(uint32_t window, size_t most)
+{
+    static const size_t none[JOLUNZA_MOST_MESSAGES + 1];
+    uint32_t code = most < JOLUNZA_MOST_MESSAGES ? JOLUNZA_WINDOW_FULL : JOLUNZA_BURST_TOO_LONG;
+    jolunza_handle handle = JOLUNZA_CLOSED_HANDLE;
+
+    CHECK(jolunza_open(&handle, GROUP, SIZE, window, 0, 1) == JOLUNZA_DONE);
+    CHECK(jolunza_cast_burst(&handle, jolunza_bytes(NULL), 0, none, most + 1) == code);
+    CHECK(jolunza_cast_burst(&handle, jolunza_bytes(NULL), 0, none, most) == JOLUNZA_DONE);
+    CHECK(counts(&handle, 1, most, 1));
     jolunza_close(&handle);
+}
+
+static void test_burst_fills_window(void)
+{
+    fills_window(1, 1);
+    fills_window(4, 4);
+    fills_window(32, 32);
+    fills_window(256, 32);
 }
 
 static bool has_received(bool is_repeat, bool is_entered, size_t delivered)
@@ -323,10 +347,12 @@ static void test_receive(void)
     jolunza_close(&handle);
 }
 
-/* Member 1 takes a burst and casts one: an event of each message, with a time of its own, and one entry. */
+static const uint8_t hi_yo[] = {0x21, 7, 0, 1, 0, 2, 2, 'h', 'i', 2, 'y', 'o'};
+
+/* Member 1 takes a burst and casts one: an event of each message, with a time of its own, and one entry. A burst may have one message,
+ * and the cast after it has the number after its last one. */
 static void test_burst(size_t limit)
 {
-    static const uint8_t hi_yo[] = {0x21, 7, 0, 1, 0, 2, 2, 'h', 'i', 2, 'y', 'o'};
     jolunza_handle handle = JOLUNZA_CLOSED_HANDLE;
     size_t more = limit > 0 ? 2 : 0;
     struct filled *f = &filled;
@@ -335,6 +361,9 @@ static void test_burst(size_t limit)
     CHECK(receive(&handle, hi_yo, sizeof hi_yo) == JOLUNZA_DONE);
     CHECK(has_received(false, true, 2));
     CHECK(counts(&handle, 0, 2, 1));
+    CHECK(jolunza_entry(&handle, 0, &f->entry, f->bytes, 12, f->names, 4) == JOLUNZA_DONE);
+    CHECK(f->entry.kind == JOLUNZA_ARRIVE && f->entry.length == 12 && f->entry.delivered == 2);
+    CHECK(f->names[0].sender == 0 && f->names[0].number == 1 && f->names[1].sender == 0 && f->names[1].number == 2);
     CHECK(receive(&handle, hi_yo, sizeof hi_yo) == JOLUNZA_DONE);
     CHECK(has_received(true, false, 0));
     /* a byte behind the last payload is not looked at */
@@ -347,8 +376,69 @@ static void test_burst(size_t limit)
     CHECK(memcmp(f->times, (const uint32_t[]){2, 1, 0, 2, 2, 0}, 6 * sizeof f->times[0]) == 0);
     CHECK(jolunza_entry(&handle, more / 2, &f->entry, f->bytes, 12, f->names, 4) == JOLUNZA_DONE);
     CHECK(f->entry.kind == JOLUNZA_CAST && f->entry.length == 12 && f->entry.delivered == 0);
+    CHECK(cast_burst(&handle, "no", (const size_t[]){1}, 1) == JOLUNZA_DONE);
+    CHECK(is_frame(&handle, 0, TO_ALL, BYTES(0x21, 7, 1, 3, 0, 1, 1, 'n')));
     CHECK(cast(&handle, "c") == JOLUNZA_DONE);
-    CHECK(is_frame(&handle, 0, TO_ALL, BYTES(0x11, 7, 1, 3, 0, 1, 'c')));
+    CHECK(is_frame(&handle, 0, TO_ALL, BYTES(0x11, 7, 1, 4, 0, 1, 'c')));
+    jolunza_close(&handle);
+}
+
+/* Member 2 gets the answer before what it answers: each burst waits and is delivered as a whole, and one entry names all messages. */
+static void test_burst_overtakes(size_t limit)
+{
+    static const uint8_t a_b[] = {0x21, 7, 1, 1, 1, 0, 2, 2, 1, 'a', 1, 'b'};
+    jolunza_handle handle = JOLUNZA_CLOSED_HANDLE;
+    size_t entries = limit > 0 ? 2 : 1;
+    struct filled *f = &filled;
+
+    CHECK(jolunza_open(&handle, GROUP, SIZE, WINDOW, 2, limit) == JOLUNZA_DONE);
+    CHECK(receive(&handle, a_b, sizeof a_b) == JOLUNZA_DONE && has_received(false, true, 0));
+    CHECK(receive(&handle, hi_yo, sizeof hi_yo) == JOLUNZA_DONE && has_received(false, true, 4));
+    CHECK(counts(&handle, 0, 4, entries));
+    CHECK(jolunza_events(&handle, 0, f->events, 4, f->bytes, 6, f->times, 12, &f->count) == JOLUNZA_DONE);
+    CHECK(f->count == 4 && memcmp(f->bytes, "hiyoab", 6) == 0);
+    CHECK(memcmp(f->times, (const uint32_t[]){1, 0, 0, 2, 0, 0, 2, 1, 0, 2, 2, 0}, 12 * sizeof f->times[0]) == 0);
+    CHECK(jolunza_entry(&handle, entries - 1, &f->entry, f->bytes, 12, f->names, 4) == JOLUNZA_DONE);
+    CHECK(f->entry.kind == JOLUNZA_ARRIVE && f->entry.length == 12 && f->entry.delivered == 4);
+    CHECK(f->names[0].sender == 0 && f->names[1].number == 2 && f->names[2].sender == 1 && f->names[3].number == 2);
+    CHECK(receive(&handle, hi_yo, sizeof hi_yo) == JOLUNZA_DONE && has_received(true, false, 0));
+    CHECK(receive(&handle, a_b, sizeof a_b) == JOLUNZA_DONE && has_received(true, false, 0));
+    jolunza_close(&handle);
+}
+
+/* Both others have the first message of a burst alone: its frame is sent again as long as the last one is not known to be delivered,
+ * and three more messages have room. */
+static void test_burst_sent_again(void)
+{
+    jolunza_handle handle = JOLUNZA_CLOSED_HANDLE;
+    struct filled *f = &filled;
+
+    open_new(&handle, 0);
+    CHECK(cast_burst(&handle, "hiyo", (const size_t[]){2, 2}, 2) == JOLUNZA_DONE);
+    CHECK(is_frame(&handle, 0, TO_ALL, hi_yo, sizeof hi_yo));
+    CHECK(receive(&handle, BYTES(0x13, 7, 2, 0, 1, 1, 0)) == JOLUNZA_DONE && has_received(false, false, 0));
+    CHECK(counts(&handle, 1, 2, 1) && is_frame(&handle, 0, 2, hi_yo, sizeof hi_yo));
+    CHECK(receive(&handle, BYTES(0x12, 7, 1, 1, 0, 1)) == JOLUNZA_DONE && has_received(false, true, 0));
+    CHECK(receive(&handle, BYTES(0x12, 7, 2, 1, 0, 1)) == JOLUNZA_DONE && has_received(false, true, 0));
+    CHECK(jolunza_stable(&handle, f->times) == JOLUNZA_DONE && f->times[0] == 1);
+    CHECK(receive(&handle, BYTES(0x13, 7, 2, 0, 1, 1, 0)) == JOLUNZA_DONE);
+    CHECK(is_frame(&handle, 0, 2, hi_yo, sizeof hi_yo));
+    CHECK(cast_burst(&handle, "", (const size_t[]){0, 0, 0, 0}, 4) == JOLUNZA_WINDOW_FULL);
+    CHECK(cast_burst(&handle, "x", (const size_t[]){0, 1, 0}, 3) == JOLUNZA_DONE);
+    CHECK(is_frame(&handle, 0, TO_ALL, BYTES(0x21, 7, 0, 3, 0, 3, 0, 1, 'x', 0)));
+    jolunza_close(&handle);
+}
+
+/* Three casts, of which member 2 asks for the last two. */
+static void test_sent_again(void)
+{
+    jolunza_handle handle = JOLUNZA_CLOSED_HANDLE;
+
+    open_new(&handle, 0);
+    CHECK(cast(&handle, "a") == JOLUNZA_DONE && cast(&handle, "b") == JOLUNZA_DONE && cast(&handle, "c") == JOLUNZA_DONE);
+    CHECK(receive(&handle, BYTES(0x13, 7, 2, 0, 1, 1, 1)) == JOLUNZA_DONE && has_received(false, false, 0));
+    CHECK(counts(&handle, 2, 3, 3) && is_frame(&handle, 0, 2, BYTES(0x11, 7, 0, 2, 0, 1, 'b')));
+    CHECK(is_frame(&handle, 1, 2, BYTES(0x11, 7, 0, 3, 0, 1, 'c')));
     jolunza_close(&handle);
 }
 
@@ -361,6 +451,7 @@ static void test_overlap(void)
     refuses(&handle, JOLUNZA_TOO_FAR, BYTES(0x21, 7, 0, 4, 0, 2, 0, 0));
     CHECK(receive(&handle, BYTES(0x11, 7, 0, 2, 0, 0)) == JOLUNZA_DONE);
     refuses(&handle, JOLUNZA_OVERLAP, BYTES(0x21, 7, 0, 1, 0, 2, 0, 0));
+    refuses(&handle, JOLUNZA_OVERLAP, BYTES(0x21, 7, 0, 2, 0, 3, 0, 0, 0));
     refuses(&handle, JOLUNZA_MALFORMED, BYTES(0x21, 7, 0, 1, 0, 0));
     refuses(&handle, JOLUNZA_MALFORMED, BYTES(0x21, 7, 0, 1, 0, 33));
     CHECK(receive(&handle, BYTES(0x11, 7, 0, 1, 0, 0)) == JOLUNZA_DONE);
@@ -409,7 +500,11 @@ static void test_load(size_t limit)
     refuses_loaded(&handle, JOLUNZA_MALFORMED, 1, 6);
     refuses_loaded(&handle, JOLUNZA_NONE_THERE, 21, 1);
     refuses_loaded(&handle, JOLUNZA_NONE_THERE, 0, 22);
+    refuses_loaded(&handle, JOLUNZA_NONE_THERE, 15, 7);
     refuses_loaded(&handle, JOLUNZA_NONE_THERE, 22, 0);
+    refuses_loaded(&handle, JOLUNZA_NONE_THERE, 0, SIZE_MAX);
+    refuses_loaded(&handle, JOLUNZA_NONE_THERE, SIZE_MAX, 0);
+    refuses_loaded(&handle, JOLUNZA_NONE_THERE, SIZE_MAX, SIZE_MAX);
     refuses_loaded(&handle, JOLUNZA_NONE_THERE, 1, SIZE_MAX);
     refuses_loaded(&handle, JOLUNZA_NONE_THERE, SIZE_MAX, 1);
     CHECK(receive_loaded(&handle, 0, 7) == JOLUNZA_DONE);
@@ -420,6 +515,8 @@ static void test_load(size_t limit)
     CHECK(jolunza_events(&handle, more, filled.events, 4, filled.bytes, 9, filled.times, 16, &filled.count) == JOLUNZA_DONE);
     CHECK(filled.count == 2 && memcmp(filled.bytes, "ab", 2) == 0);
     refuses_loaded(&handle, JOLUNZA_NONE_THERE, 7, 7);
+    CHECK(jolunza_load(&handle, jolunza_bytes(NULL), 0) == JOLUNZA_DONE);
+    refuses_loaded(&handle, JOLUNZA_NONE_THERE, 0, 1);
     CHECK(jolunza_load(&handle, three, 14) == JOLUNZA_DONE);
     CHECK(receive_loaded(&handle, 7, 7) == JOLUNZA_DONE);
     CHECK(has_received(true, false, 0));
@@ -471,6 +568,37 @@ static void test_parts(size_t limit)
     CHECK(counts(&handle, 0, more ? 4 : 1, more ? 4 : 1));
     refuses_parts(&handle, JOLUNZA_NONE_THERE, 35, lengths + 5, 1);
     refuses_parts(&handle, JOLUNZA_NONE_THERE, 1, (const size_t[]){SIZE_MAX}, 1);
+    refuses_parts(&handle, JOLUNZA_NONE_THERE, 0, (const size_t[]){36}, 1);
+    refuses_parts(&handle, JOLUNZA_NONE_THERE, 36, (const size_t[]){0}, 1);
+    refuses_parts(&handle, JOLUNZA_NONE_THERE, SIZE_MAX, lengths + 5, 1);
+    refuses_parts(&handle, JOLUNZA_MALFORMED, 28, (const size_t[]){0, 7}, 2);
+    /* 1.3 is a repeat, and what is no frame or is not loaded is not taken after it */
+    CHECK(receive_parts(&handle, 28, (const size_t[]){7, 0}, 2) == JOLUNZA_DONE && filled.count == 1);
+    CHECK(receive_parts(&handle, 28, (const size_t[]){7, SIZE_MAX}, 2) == JOLUNZA_DONE && filled.count == 1);
+    jolunza_close(&handle);
+}
+
+/* 0.2 waits for 0.1; then all three parts are taken, of which it is a repeat. Without a history what was there before the call is gone, and
+ * what all parts have added is there. */
+static void test_parts_together(size_t limit)
+{
+    static const uint8_t three[] = {0x11, 7, 0, 1, 0, 1, 'a', 0x11, 7, 0, 2, 0, 1, 'b', 0x11, 7, 0, 3, 0, 1, 'c'};
+    jolunza_handle handle = JOLUNZA_CLOSED_HANDLE;
+    size_t before = limit > 0, entries = limit > 0 ? 4 : 2;
+    struct filled *f = &filled;
+
+    CHECK(jolunza_open(&handle, GROUP, SIZE, WINDOW, 1, limit) == JOLUNZA_DONE);
+    CHECK(jolunza_load(&handle, three, sizeof three) == JOLUNZA_DONE);
+    CHECK(cast(&handle, "x") == JOLUNZA_DONE);
+    CHECK(receive_parts(&handle, 7, (const size_t[]){7}, 1) == JOLUNZA_DONE && f->count == 1);
+    CHECK(counts(&handle, 0, before, before + 1));
+    CHECK(receive_parts(&handle, 0, (const size_t[]){7, 7, 7}, 3) == JOLUNZA_DONE && f->count == 3);
+    CHECK(counts(&handle, 0, before + 3, entries));
+    CHECK(jolunza_events(&handle, before, f->events, 4, f->bytes, 9, f->times, 16, &f->count) == JOLUNZA_DONE);
+    CHECK(f->count == 3 && memcmp(f->bytes, "abc", 3) == 0);
+    CHECK(jolunza_entry(&handle, entries - 2, &f->entry, f->bytes, 7, f->names, 4) == JOLUNZA_DONE && f->entry.delivered == 2);
+    CHECK(jolunza_entry(&handle, entries - 1, &f->entry, f->bytes, 7, f->names, 4) == JOLUNZA_DONE && f->entry.delivered == 1);
+    CHECK(f->names[0].sender == 0 && f->names[0].number == 3);
     jolunza_close(&handle);
 }
 
@@ -488,6 +616,10 @@ static void test_full_history(void)
     CHECK(is_frame(&handle, 0, TO_ALL, BYTES(0x11, 7, 0, 1, 0, 2, 'h', 'i')));
     CHECK(receive(&handle, BYTES(0x12, 7, 1, 0)) == JOLUNZA_DONE);
     CHECK(counts(&handle, 0, 1, 1));
+    /* a full window counts before a full history */
+    CHECK(jolunza_open(&handle, GROUP, SIZE, 1, 0, 1) == JOLUNZA_DONE);
+    CHECK(cast(&handle, "hi") == JOLUNZA_DONE && cast(&handle, "") == JOLUNZA_WINDOW_FULL);
+    CHECK(jolunza_tick(&handle) == JOLUNZA_HISTORY_FULL);
     jolunza_close(&handle);
 }
 
@@ -520,16 +652,92 @@ static void test_no_history(void)
     CHECK(counts(&handle, 0, 2, 1));
     CHECK(jolunza_events(&handle, 0, f->events, 4, f->bytes, 9, f->times, 16, &f->count) == JOLUNZA_DONE);
     CHECK(f->count == 2 && f->events[1].number == 2 && memcmp(f->bytes, "ab", 2) == 0);
+    CHECK(memcmp(f->times, (const uint32_t[]){1, 0, 0, 2, 0, 0}, 6 * sizeof f->times[0]) == 0);
     CHECK(jolunza_entry(&handle, 0, &f->entry, f->bytes, 8, f->names, 4) == JOLUNZA_DONE);
     CHECK(f->entry.kind == JOLUNZA_ARRIVE && f->entry.delivered == 2 && f->names[1].sender == 0 && f->names[1].number == 2);
     CHECK(receive(&handle, BYTES(0x11, 7, 0, 1, 0, 1, 'a')) == JOLUNZA_DONE);
     CHECK(f->received.is_repeat && counts(&handle, 0, 0, 0));
     CHECK(jolunza_tick(&handle) == JOLUNZA_DONE && counts(&handle, 1, 0, 1));
+    CHECK(jolunza_entry(&handle, 0, &f->entry, f->bytes, 8, f->names, 4) == JOLUNZA_DONE && f->entry.kind == JOLUNZA_TICK);
     CHECK(jolunza_tick(&handle) == JOLUNZA_DONE && counts(&handle, 1, 0, 0));
     for (more = 3; more < 100; more++) {
         CHECK(receive(&handle, BYTES(0x11, 7, 0, (uint8_t)more, 0, 1, 'c')) == JOLUNZA_DONE);
         CHECK(counts(&handle, 0, 1, 1));
     }
+    jolunza_close(&handle);
+}
+
+/* A call that is refused leaves what the last call that was done has left, also without a history. */
+static void test_refused_without_history(void)
+{
+    static const uint8_t payload[JOLUNZA_LONGEST_PAYLOAD + 1];
+    jolunza_handle handle = JOLUNZA_CLOSED_HANDLE;
+    struct filled *f = &filled;
+
+    CHECK(jolunza_open(&handle, GROUP, SIZE, WINDOW, 0, 0) == JOLUNZA_DONE);
+    for (int i = 0; i < WINDOW; i++)
+        CHECK(cast(&handle, (const char[]){(char)('a' + i), '\0'}) == JOLUNZA_DONE);
+    CHECK(cast(&handle, "e") == JOLUNZA_WINDOW_FULL);
+    CHECK(jolunza_cast(&handle, payload, sizeof payload) == JOLUNZA_PAYLOAD_TOO_LONG);
+    refuses(&handle, JOLUNZA_IMPOSSIBLE, BYTES(0x11, 7, 0, 9, 0, 0));
+    CHECK(counts(&handle, 1, 1, 1) && is_frame(&handle, 0, TO_ALL, BYTES(0x11, 7, 0, 4, 0, 1, 'd')));
+    CHECK(jolunza_event(&handle, 0, f->events, f->bytes, 1, f->times, SIZE) == JOLUNZA_DONE);
+    CHECK(f->events[0].is_own && f->events[0].number == 4 && f->bytes[0] == 'd');
+    CHECK(jolunza_entry(&handle, 0, &f->entry, f->bytes, 8, f->names, 4) == JOLUNZA_DONE);
+    CHECK(f->entry.kind == JOLUNZA_CAST && f->entry.length == 7 && f->entry.delivered == 0);
+    jolunza_close(&handle);
+}
+
+/* Both others report that they have delivered so many. */
+static void reports(jolunza_handle *handle, uint8_t number)
+{
+    struct filled *f = &filled;
+
+    for (uint8_t other = 1; other < SIZE; other++) {
+        CHECK(receive(handle, BYTES(0x12, 7, other, 1, 0, number)) == JOLUNZA_DONE && has_received(false, true, 0));
+        CHECK(jolunza_entry(handle, 0, &f->entry, f->bytes, 8, f->names, 4) == JOLUNZA_DONE);
+        CHECK(f->entry.kind == JOLUNZA_ARRIVE && f->entry.length == 6 && f->entry.delivered == 0);
+    }
+    CHECK(jolunza_stable(handle, f->times) == JOLUNZA_DONE && f->times[0] == number);
+    CHECK(jolunza_time(handle, f->times, SIZE) == JOLUNZA_DONE && f->times[0] == number && f->times[1] == 0);
+}
+
+/* Without a history casts and bursts go on, each delivered by both others before the next: a history of one entry would be full at once. */
+static void test_no_history_goes_on(void)
+{
+    jolunza_handle handle = JOLUNZA_CLOSED_HANDLE;
+    struct filled *f = &filled;
+
+    CHECK(jolunza_open(&handle, GROUP, SIZE, WINDOW, 0, 0) == JOLUNZA_DONE);
+    for (uint8_t number = 3; number < 126; number += 3) {
+        CHECK(cast(&handle, "x") == JOLUNZA_DONE && counts(&handle, 1, 1, 1));
+        reports(&handle, number - 2);
+        CHECK(cast_burst(&handle, "xy", (const size_t[]){1, 1}, 2) == JOLUNZA_DONE && counts(&handle, 1, 2, 1));
+        CHECK(jolunza_event(&handle, 1, f->events, f->bytes, 1, f->times, SIZE) == JOLUNZA_DONE);
+        CHECK(f->events[0].is_own && f->events[0].number == number && f->bytes[0] == 'y' && f->times[0] == number);
+        reports(&handle, number);
+    }
+    jolunza_close(&handle);
+}
+
+/* A member that has 0.1 and 0.4, and so misses 0.2 and 0.3: a range of two. A status is entered where it is new, and sent each time. */
+static void test_tick(size_t limit)
+{
+    jolunza_handle handle = JOLUNZA_CLOSED_HANDLE;
+    size_t entries = limit > 0 ? 3 : 1;
+    struct filled *f = &filled;
+
+    CHECK(jolunza_open(&handle, GROUP, SIZE, WINDOW, 2, limit) == JOLUNZA_DONE);
+    CHECK(receive(&handle, BYTES(0x11, 7, 0, 1, 0, 1, 'a')) == JOLUNZA_DONE && has_received(false, true, 1));
+    CHECK(receive(&handle, BYTES(0x11, 7, 0, 4, 0, 1, 'd')) == JOLUNZA_DONE && has_received(false, true, 0));
+    CHECK(jolunza_tick(&handle) == JOLUNZA_DONE && counts(&handle, 2, limit > 0, entries));
+    CHECK(is_frame(&handle, 0, TO_ALL, BYTES(0x12, 7, 2, 1, 0, 1)) && is_frame(&handle, 1, 0, BYTES(0x13, 7, 2, 0, 1, 1, 1)));
+    CHECK(jolunza_entry(&handle, entries - 1, &f->entry, f->bytes, 8, f->names, 4) == JOLUNZA_DONE);
+    CHECK(f->entry.kind == JOLUNZA_TICK && f->entry.length == 6 && f->entry.delivered == 0);
+    untouched();
+    CHECK(jolunza_missing(&handle, 0, f->ranges, 4, &f->count) == JOLUNZA_DONE && f->count == 1);
+    CHECK(f->ranges[0].first == 2 && f->ranges[0].last == 3 && IS_UNTOUCHED(f->ranges[1]));
+    CHECK(jolunza_tick(&handle) == JOLUNZA_DONE && counts(&handle, 2, limit > 0, limit > 0 ? entries : 0));
     jolunza_close(&handle);
 }
 
@@ -591,6 +799,21 @@ static void test_help(size_t limit)
     jolunza_close(&handle);
 }
 
+/* Member 2 lacks 0.1, which nobody else is known to have: its sender has it, and member 1 has its own alone. */
+static void test_help_of_nobody(void)
+{
+    jolunza_handle handle = JOLUNZA_CLOSED_HANDLE;
+
+    open_new(&handle, 2);
+    CHECK(receive(&handle, BYTES(0x11, 7, 0, 2, 0, 1, 'b')) == JOLUNZA_DONE && has_received(false, true, 0));
+    CHECK(cast(&handle, "x") == JOLUNZA_DONE);
+    CHECK(receive(&handle, BYTES(0x12, 7, 0, 1, 0, 2)) == JOLUNZA_DONE);
+    CHECK(jolunza_help(&handle, 0) == JOLUNZA_DONE && counts_of(&handle).frames == 0);
+    CHECK(receive(&handle, BYTES(0x12, 7, 1, 1, 2, 1)) == JOLUNZA_DONE);
+    CHECK(jolunza_help(&handle, 0) == JOLUNZA_DONE && counts_of(&handle).frames == 0);
+    jolunza_close(&handle);
+}
+
 /* Member 2 asks the first of the members given that it knows to have what is missing; itself and member 0 are passed over. */
 static void test_help_among(void)
 {
@@ -601,7 +824,8 @@ static void test_help_among(void)
     CHECK(receive(&handle, BYTES(0x12, 7, 1, 2, 0, 2, 0, 1)) == JOLUNZA_DONE);
     CHECK(jolunza_help_among(&handle, 0, members, 3) == JOLUNZA_DONE && is_frame(&handle, 0, 1, help, sizeof help));
     CHECK(jolunza_help_among(&handle, 0, members, 4) == JOLUNZA_BAD_MEMBER);
-    CHECK(counts_of(&handle).frames == 1);
+    CHECK(counts_of(&handle).frames == 1 && is_frame(&handle, 0, 1, help, sizeof help));
+    CHECK(jolunza_help_among(&handle, 0, members + 1, 2) == JOLUNZA_DONE && is_frame(&handle, 0, 1, help, sizeof help));
     CHECK(jolunza_help_among(&handle, 0, members, 2) == JOLUNZA_DONE && counts_of(&handle).frames == 0);
     CHECK(jolunza_help_among(&handle, 0, members, 0) == JOLUNZA_DONE && counts_of(&handle).frames == 0);
     CHECK(jolunza_help_among(&handle, 2, members, 3) == JOLUNZA_BAD_MEMBER);
@@ -615,16 +839,18 @@ static bool hands_on(jolunza_handle *handle, const uint8_t *frames)
     return counts_of(handle).frames == 2 && is_frame(handle, 0, 2, frames, 7) && is_frame(handle, 1, 2, frames + 7, 7);
 }
 
-/* Member 1 hands on what it is asked for by any call that takes it, until it knows that all but the sender have it. */
+/* Member 1 hands on what it is asked for by any call that takes it, until it knows that all but the sender have it. What stands after the
+ * help frame among parts waits for the next call. */
 static void test_helper(size_t limit)
 {
-    static const uint8_t loaded[] = {0x11, 7, 0, 1, 0, 1, 'a', 0x11, 7, 0, 2, 0, 1, 'b', 0x23, 7, 2, 1, 0, 1, 0, 1};
+    static const uint8_t loaded[] = {0x11, 7, 0, 1, 0, 1, 'a', 0x11, 7, 0, 2, 0, 1, 'b', 0x23, 7, 2, 1, 0, 1, 0, 1,
+                                     0x11, 7, 0, 3, 0, 1, 'c'};
     jolunza_handle handle = JOLUNZA_CLOSED_HANDLE;
 
     CHECK(jolunza_open(&handle, GROUP, SIZE, WINDOW, 1, limit) == JOLUNZA_DONE);
     CHECK(receive(&handle, help, sizeof help) == JOLUNZA_DONE && counts(&handle, 0, 0, 0));
     CHECK(jolunza_load(&handle, loaded, sizeof loaded) == JOLUNZA_DONE);
-    CHECK(jolunza_receive_parts(&handle, 0, (const size_t[]){7, 7, 8}, 3, &filled.count) == JOLUNZA_DONE);
+    CHECK(jolunza_receive_parts(&handle, 0, (const size_t[]){7, 7, 8, 7}, 4, &filled.count) == JOLUNZA_DONE);
     CHECK(filled.count == 3 && hands_on(&handle, loaded));
     CHECK(cast(&handle, "hi") == JOLUNZA_DONE);
     CHECK(receive(&handle, help, sizeof help) == JOLUNZA_DONE);
@@ -639,6 +865,33 @@ static void test_helper(size_t limit)
     CHECK(receive(&handle, help, sizeof help) == JOLUNZA_DONE);
     CHECK(has_received(false, false, 0) && counts_of(&handle).frames == 0);
     jolunza_close(&handle);
+}
+
+/* A help frame that asks member 1 for 0.1 and 0.2 changes nothing and gets no answer. */
+static void takes_silently(jolunza_handle *handle)
+{
+    jolunza_counts before = counts_of(handle);
+
+    CHECK(receive(handle, help, sizeof help) == JOLUNZA_DONE && has_received(false, false, 0));
+    CHECK(counts(handle, 0, before.events, before.entries));
+    jolunza_close(handle);
+}
+
+/* Who has asked itself, who has cast them, and who has not delivered the first answer with nothing. */
+static void test_no_helper(void)
+{
+    jolunza_handle handle = JOLUNZA_CLOSED_HANDLE;
+
+    open_new(&handle, 2);
+    CHECK(receive(&handle, BYTES(0x11, 7, 0, 1, 0, 1, 'a')) == JOLUNZA_DONE);
+    CHECK(receive(&handle, BYTES(0x11, 7, 0, 2, 0, 1, 'b')) == JOLUNZA_DONE);
+    takes_silently(&handle);
+    open_new(&handle, 0);
+    CHECK(cast(&handle, "a") == JOLUNZA_DONE && cast(&handle, "b") == JOLUNZA_DONE);
+    takes_silently(&handle);
+    open_new(&handle, 1);
+    CHECK(receive(&handle, BYTES(0x11, 7, 0, 2, 0, 1, 'b')) == JOLUNZA_DONE);
+    takes_silently(&handle);
 }
 
 /* Copies frames into so much room, and says how many came. */
@@ -671,6 +924,7 @@ static void test_frames(void)
     CHECK(is_untouched(f->bytes, 13) && IS_UNTOUCHED(f->frames));
     CHECK(copy_frames(&handle, 1, 2, 9) == 1);
     CHECK(memcmp(f->bytes, both + 4, 9) == 0 && f->frames[0].length == 9);
+    CHECK(copy_frames(&handle, 1, 2, 8) == 0);
     CHECK(copy_frames(&handle, 2, 2, 13) == 0);
     CHECK(copy_frames(&handle, SIZE_MAX, 2, 13) == 0);
     CHECK(is_untouched(f->bytes, 13) && IS_UNTOUCHED(f->frames));
@@ -1249,44 +1503,59 @@ static void test_moves(void)
     jolunza_close(&moved);
 }
 
+#define RUN(call) (now = #call, call)
+
 int main(void)
 {
-    test_handles();
-    test_open();
-    test_cast();
-    test_burst_refused();
-    test_receive();
-    test_burst(LIMIT);
-    test_burst(0);
-    test_overlap();
-    test_load(LIMIT);
-    test_load(0);
-    test_parts(LIMIT);
-    test_parts(0);
-    test_full_history();
-    test_no_history();
-    test_tick_and_frame();
-    test_help(LIMIT);
-    test_help(0);
-    test_help_among();
-    test_helper(LIMIT);
-    test_helper(0);
-    test_frames();
-    test_event();
-    test_events();
-    test_entry();
-    test_time_and_stable();
-    test_stable_of();
-    test_window_kept_full();
-    test_waiting();
-    test_missing();
-    test_journal();
-    test_resume();
-    test_sender();
-    test_text();
-    test_bytes();
-    test_longest_line();
-    test_moves();
+    RUN(test_handles());
+    RUN(test_open());
+    RUN(test_cast());
+    RUN(test_burst_refused());
+    RUN(test_burst_fills_window());
+    RUN(test_receive());
+    RUN(test_burst(LIMIT));
+    RUN(test_burst(0));
+    RUN(test_burst_overtakes(LIMIT));
+    RUN(test_burst_overtakes(0));
+    RUN(test_burst_sent_again());
+    RUN(test_sent_again());
+    RUN(test_overlap());
+    RUN(test_load(LIMIT));
+    RUN(test_load(0));
+    RUN(test_parts(LIMIT));
+    RUN(test_parts(0));
+    RUN(test_parts_together(LIMIT));
+    RUN(test_parts_together(0));
+    RUN(test_full_history());
+    RUN(test_no_history());
+    RUN(test_refused_without_history());
+    RUN(test_no_history_goes_on());
+    RUN(test_tick(LIMIT));
+    RUN(test_tick(0));
+    RUN(test_tick_and_frame());
+    RUN(test_help(LIMIT));
+    RUN(test_help(0));
+    RUN(test_help_of_nobody());
+    RUN(test_help_among());
+    RUN(test_helper(LIMIT));
+    RUN(test_helper(0));
+    RUN(test_no_helper());
+    RUN(test_frames());
+    RUN(test_event());
+    RUN(test_events());
+    RUN(test_entry());
+    RUN(test_time_and_stable());
+    RUN(test_stable_of());
+    RUN(test_window_kept_full());
+    RUN(test_waiting());
+    RUN(test_missing());
+    RUN(test_journal());
+    RUN(test_resume());
+    RUN(test_sender());
+    RUN(test_text());
+    RUN(test_bytes());
+    RUN(test_longest_line());
+    RUN(test_moves());
     printf("%u passed, %u failed\n", passed, failed);
     return failed > 0;
 }

@@ -21,8 +21,6 @@ ghost use Rattle.jolunza.specs.Calls.{Calls, Casts, CastsBurst, Receives, Loads,
 mod code;
 mod journal;
 mod origin;
-#[cfg(test)]
-mod tests;
 mod told;
 
 use crate::code::{BAD_MEMBER, CLOSED, DONE, NO_MEMORY};
