@@ -8,6 +8,4 @@
 #[cfg(test)]
 mod agreement;
 #[cfg(test)]
-mod arrivals;
-#[cfg(test)]
 mod cores;
