@@ -1,4 +1,7 @@
-//! What is answered, as lines that begin with a space.
+//! What is answered, as lines that begin with a space. The only error is out of memory, and a beginning of the piece may stand there then.
+
+ghost use Rattle.std.specs.Prelude.{◌≡◌, ◌++◌, OnOk};
+ghost use Rattle.conformance.specs.Texts.{answer_line, changed_words, is_words};
 
 use cb_frames::Range;
 use cb_lines::put_entry;
@@ -14,12 +17,17 @@ use std::fmt::Display;
 const LONG: u32 = 16;
 
 /// Words as they stand.
-pub fn put(text: &mut Vec<u8>, words: &str) -> Result<(), NoMemory> {
+pub fn put(text: &mut Vec<u8>, words: &str) -> Result<(), NoMemory>
+    ensures { OnOk result (text.new.items ≡ text.old.items ++ words.now) }
+{
     text.extend_from_slice(words.as_bytes())
 }
 
 /// A line of these words.
-pub fn put_line(text: &mut Vec<u8>, words: &str) -> Result<(), NoMemory> {
+#[tactic(auto, unfolding(crate::specs::Texts::answer_line))]
+pub fn put_line(text: &mut Vec<u8>, words: &str) -> Result<(), NoMemory>
+    ensures { OnOk result (text.new.items ≡ text.old.items ++ answer_line words.now) }
+{
     put(text, " ")?;
     put(text, words)?;
     put(text, "\n")
@@ -205,8 +213,14 @@ fn put_frame(text: &mut Vec<u8>, frame: &Outgoing) -> Result<(), NoMemory> {
 }
 
 /// Whether the call added an entry.
-pub fn put_changed(text: &mut Vec<u8>, changed: bool) -> Result<(), NoMemory> {
-    put_line(text, if changed { "changed" } else { "unchanged" })
+pub fn put_changed(text: &mut Vec<u8>, changed: bool) -> Result<(), NoMemory>
+    ensures { OnOk result
+        (text.new.items ≡ text.old.items ++ answer_line (changed_words changed)) }
+{
+    if changed {
+        return put_line(text, "changed");
+    }
+    put_line(text, "unchanged")
 }
 
 pub fn put_arrival(text: &mut Vec<u8>, arrival: &Arrival) -> Result<(), NoMemory> {
@@ -263,8 +277,13 @@ pub fn put_count(text: &mut Vec<u8>, count: Option<u32>) -> Result<(), NoMemory>
     put(text, "\n")
 }
 
-pub fn put_is(text: &mut Vec<u8>, is: bool) -> Result<(), NoMemory> {
-    put_line(text, if is { "yes" } else { "no" })
+pub fn put_is(text: &mut Vec<u8>, is: bool) -> Result<(), NoMemory>
+    ensures { OnOk result (text.new.items ≡ text.old.items ++ answer_line (is_words is)) }
+{
+    if is {
+        return put_line(text, "yes");
+    }
+    put_line(text, "no")
 }
 
 /// The first message that waits, and what it waits for.
