@@ -3,7 +3,8 @@
 use crate::words::{bytes_of, numbers_of, payload_of, payloads_of};
 use bytes::Bytes;
 use cb_lines::{LineFault, number_of};
-use std::alloc::{AllocError, Global};
+use cb_times::NoMemory;
+use std::alloc::Global;
 
 /// What a line asks of a member.
 #[derive(Drop)]
@@ -112,7 +113,7 @@ fn among(alloc: Global, number: &str, members: &str) -> Result<Call, LineFault> 
 }
 
 /// A slice of each payload.
-pub fn slices_of(alloc: Global, payloads: &[Vec<u8>]) -> Result<Vec<&[u8]>, AllocError> {
+pub fn slices_of(alloc: Global, payloads: &[Vec<u8>]) -> Result<Vec<&[u8]>, NoMemory> {
     payloads
         .iter()
         .map(|payload| payload.as_slice())

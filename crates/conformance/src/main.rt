@@ -7,9 +7,9 @@
 //! stands in them, `texts` writes answers. `members` plays each call with a member of each kind; `frames` reads frames and streams.
 #![tactic(auto)]
 
+mod bare;
 mod call;
 mod frames;
-mod kept;
 mod members;
 mod player;
 mod readings;

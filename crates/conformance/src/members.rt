@@ -1,7 +1,7 @@
 //! The members that play one stanza, which must all answer the same.
 
+use crate::bare::Bare;
 use crate::call::{Call, Reading};
-use crate::kept::Bare;
 use crate::player::{Player, play};
 use crate::receiving::Receiving;
 use crate::reference::Reference;
