@@ -51,8 +51,10 @@ def join():
 
 
 def tests():
-    for file in [*TOP.glob("crates/*/src/**/*.rt"), *TOP.glob("checks/*.sh")]:
+    for file in [*TOP.glob("crates/*/src/**/*.rt"), *TOP.glob("checks/inner-tests/*/*.test")]:
         yield from re.findall(r"#\[test\]\s*(?:pub )?fn (\w+)", file.read_text())
+    for file in [*TOP.glob("bindings/c/*.c"), *TOP.glob("checks/*.c")]:
+        yield from re.findall(r"(?m)^static void (test_\w+)\(", file.read_text())
 
 
 def unknown_names(there):
