@@ -14,7 +14,7 @@ use cb_reference::ReferenceMember;
 use cb_times::NoMemory;
 
 /// It plays no further where it has this many entries, since it works all of them out anew at each call.
-const MOST_ENTRIES: usize = 70;
+const MOST_ENTRIES: usize = 20;
 
 #[derive(Drop)]
 pub struct Reference {
