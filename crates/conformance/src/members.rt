@@ -144,7 +144,10 @@ fn bare(alloc: Global, seat: Seat) -> Result<Bare, NewFault> {
 fn reference(alloc: Global, seat: Seat) -> Result<Reference, NewFault> {
     let limit = seat.limit.unwrap_or(ROOM);
     let member = ReferenceMember::new(alloc, seat.group, seat.me, limit)?;
-    Ok(Reference { member })
+    Ok(Reference {
+        member,
+        messages: 0,
+    })
 }
 
 /// Plays the call, and writes the player's answer where it is not this text. Nothing is no answer.

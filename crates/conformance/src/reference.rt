@@ -9,21 +9,23 @@ use crate::texts::{
 };
 use crate::whole::{put_burst_done, put_cast_done};
 use bytes::Bytes;
-use cb_member::Entry;
+use cb_member::{Arrival, Entry};
 use cb_reference::ReferenceMember;
 use cb_times::NoMemory;
 
-/// It plays no further where it has this many entries, since it works all of them out anew at each call.
-const MOST_ENTRIES: usize = 20;
+/// It plays no further once it has cast and delivered this many messages, since it works all of them out anew at each call.
+const MOST_MESSAGES: usize = 70;
 
 #[derive(Drop)]
 pub struct Reference {
     pub member: ReferenceMember,
+    /// How many messages it has cast and delivered.
+    pub messages: usize,
 }
 
 impl Reference {
     pub fn has_played_enough(&self) -> bool {
-        self.member.history().len() >= MOST_ENTRIES
+        self.messages >= MOST_MESSAGES
     }
 
     /// Says where the entry that a call told is not the one that it added.
@@ -47,6 +49,7 @@ impl Player for Reference {
     fn cast(&mut self, payload: &[u8], text: &mut Vec<u8>) -> Result<(), NoMemory> {
         match self.member.cast_noted(payload) {
             Ok((done, entry)) => {
+                self.messages = self.messages.saturating_add(1);
                 put_cast_done(text, &done)?;
                 self.compare(&entry, text)
             }
@@ -57,6 +60,7 @@ impl Player for Reference {
     fn burst(&mut self, payloads: &[&[u8]], text: &mut Vec<u8>) -> Result<(), NoMemory> {
         match self.member.cast_burst_noted(payloads) {
             Ok((done, entry)) => {
+                self.messages = self.messages.saturating_add(payloads.len());
                 put_burst_done(text, &done)?;
                 self.compare(&entry, text)
             }
@@ -67,6 +71,7 @@ impl Player for Reference {
     fn take(&mut self, bytes: &Bytes, text: &mut Vec<u8>) -> Result<(), NoMemory> {
         match self.member.arrive_noted(bytes) {
             Ok((arrival, entry)) => {
+                self.messages = self.messages.saturating_add(delivered_by(&arrival));
                 put_arrival(text, &arrival)?;
                 self.compare_if(&entry, text)
             }
@@ -97,6 +102,13 @@ impl Player for Reference {
 
     fn help_among(&self, _i: u32, _members: &[u32], _text: &mut Vec<u8>) -> Result<(), NoMemory> {
         Ok(())
+    }
+}
+
+fn delivered_by(arrival: &Arrival) -> usize {
+    match arrival {
+        Arrival::Accepted { deliveries, .. } => deliveries.len(),
+        Arrival::Repeat => 0,
     }
 }
 

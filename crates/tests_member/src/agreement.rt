@@ -7,13 +7,13 @@
 mod calls;
 mod dice;
 mod forging;
-mod forms;
+mod kinds;
 mod world;
 
 use crate::agreement::calls::{Call, Made, answer, arrival_text, counted, group_of};
 use crate::agreement::dice::Dice;
 use crate::agreement::forging::{Target, damaged, forged};
-use crate::agreement::forms::{self, Noting, core_of};
+use crate::agreement::kinds::{Noting, core_of};
 use crate::agreement::world::World;
 use bytes::Bytes;
 use cb_history::{ArriveRefusal, Entry, Event, Group, GroupMember, History, Message};
@@ -84,7 +84,7 @@ impl Cores {
     }
 
     fn silent_answer(&mut self, alloc: Global, call: Call<'_>) -> Result<String, Fail> {
-        let text = forms::answer(alloc, &mut self.silent, call)?;
+        let text = kinds::answer(alloc, &mut self.silent, call)?;
         match call {
             Call::Cast(_) | Call::Burst(_) | Call::Take(_) | Call::Tick => self
                 .noting

@@ -11,7 +11,7 @@ struct Caster {
     events: Vec<Event>,
 }
 
-fn caster(rt: &impl Abort, alloc: Global) -> Caster {
+fn new_caster(rt: &impl Abort, alloc: Global) -> Caster {
     let group = Group::new(7, 3, 2).expect(rt, "the numbers are those of a group");
     Caster {
         core: CoreMember::new(alloc, group, 0).expect(rt, "a core"),
@@ -28,7 +28,7 @@ fn a_core_says_beforehand_whether_it_casts(rt: HostRuntime) {
         (&[], Some(CastRefusal::WindowFull)),
         (&[0; 1025], Some(CastRefusal::PayloadTooLong)),
     ];
-    let mut caster = caster(&rt, rt.alloc());
+    let mut caster = new_caster(&rt, rt.alloc());
     for (payload, refusal) in ROWS {
         assert_eq!(rt; caster.core.may_cast(payload).err(), *refusal);
         let cast = caster.core.cast(payload, &mut caster.events);
@@ -51,7 +51,7 @@ fn a_core_says_beforehand_whether_it_casts_a_burst(rt: HostRuntime) {
         (&[NONE; 2], None),
         (&[NONE], Some(BurstRefusal::WindowFull)),
     ];
-    let mut caster = caster(&rt, rt.alloc());
+    let mut caster = new_caster(&rt, rt.alloc());
     for (payloads, refusal) in ROWS {
         assert_eq!(rt; caster.core.may_cast_burst(payloads).err(), *refusal);
         let burst = caster.core.cast_burst(payloads, &mut caster.events);
@@ -61,7 +61,7 @@ fn a_core_says_beforehand_whether_it_casts_a_burst(rt: HostRuntime) {
 
 #[test]
 fn a_core_has_news_until_it_tells_them(rt: HostRuntime) {
-    let mut caster = caster(&rt, rt.alloc());
+    let mut caster = new_caster(&rt, rt.alloc());
     for is_new in [true, false, false] {
         assert_eq!(rt; caster.core.has_news(), is_new);
         let ticked = caster.core.tick().expect(&rt, "a tick");
