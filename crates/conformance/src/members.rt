@@ -112,14 +112,21 @@ impl Members {
     }
 }
 
+fn member(alloc: Global, seat: Seat) -> Result<Member, NewFault> {
+    Member::new(alloc, seat.group, seat.me, seat.limit.unwrap_or(ROOM))
+}
+
 fn whole(alloc: Global, seat: Seat) -> Result<Whole, NewFault> {
-    let member = Member::new(alloc, seat.group, seat.me, seat.limit.unwrap_or(ROOM))?;
+    let member = member(alloc, seat)?;
     Ok(Whole { member })
 }
 
 fn receiving(alloc: Global, seat: Seat) -> Result<Receiving, NewFault> {
-    let whole = whole(alloc, seat)?;
-    match Member::new(alloc, seat.group, seat.me, seat.limit.unwrap_or(ROOM)) {
+    beside(whole(alloc, seat)?, member(alloc, seat))
+}
+
+fn beside(whole: Whole, noting: Result<Member, NewFault>) -> Result<Receiving, NewFault> {
+    match noting {
         Ok(noting) => Ok(Receiving { whole, noting }),
         Err(fault) => Err(fault),
     }
