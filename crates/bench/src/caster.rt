@@ -1,4 +1,4 @@
-//! Who casts in a group in threads.
+//! The talker that casts in a group in threads.
 
 use crate::plan::Plan;
 use cb_member::{Event, NoMemory};

@@ -32,7 +32,7 @@ enum Way {
     Arrive,
 }
 
-/// So many messages wait, and so many more are delivered then.
+/// How many messages wait, and how many more are delivered then.
 #[derive(Clone, Copy, Drop)]
 struct Plan {
     group: Group,

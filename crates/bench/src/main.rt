@@ -1,5 +1,5 @@
-//! What is measured of members, streams, journals and groups in threads, beside what `bench_member` and `bench_core` measure. The first word
-//! says which of these is run; the others are its own:
+//! Measures members, streams, journals and groups in threads, beside `bench_member` and `bench_core`. The first word says which of these is
+//! run; the others are its own:
 //!
 //! - `held`: what a delivery costs a member of 64 while many messages wait (`bench/held.sh`);
 //! - `stream`: what it costs to read frames out of a stream that comes in pieces (`bench/stream.sh`);
@@ -29,7 +29,7 @@ fn words_of(rt: &HostRuntime) -> Result<Vec<String>, Fault> {
     Ok(env::args(rt)?.collect(rt.alloc())?)
 }
 
-/// What is measured.
+/// A measurement, by the word that runs it.
 #[derive(Clone, Copy)]
 enum Measure {
     Held,
@@ -39,11 +39,11 @@ enum Measure {
     Soak,
 }
 
-/// What alone this program measures: `bench/alone.sh` exchanges this line. Where a function of a member has one caller the compiler puts it in
+/// The only measurement of this program: `bench/alone.sh` exchanges this line. Where a function of a member has one caller the compiler puts it in
 /// place there. In a program of several measures it has several, and each delivery would cost up to an eighth more.
 const ALONE: Option<Measure> = None;
 
-/// What the first word after the program's name says.
+/// The measurement that the first word after the program's name asks for.
 fn measure_in(words: &[String]) -> Option<Measure> {
     match words.get(1)?.as_str() {
         "held" => Some(Measure::Held),

@@ -9,7 +9,7 @@ use bytes::Bytes;
 use cb_history::{Group, Outgoing};
 use cb_journal::Device;
 
-/// All tick after so many rounds: long before a window is full.
+/// All tick after this many rounds: long before a window is full.
 const ROUNDS_A_TICK: u32 = 16;
 
 /// What was delivered by all, and how many entries the first member has.
