@@ -113,6 +113,9 @@ alike_again a b d first later = record {
 settled_itself : (d : Delivery) → IsSettled d d
 settled_itself d = record { time = refl; queue = record { size = refl; window = refl; now_held = refl } }
 
+pub alike_itself : (state : State) → IsAlike state state
+alike_itself state = record { seat = refl; delivery = settled_itself state.delivery; reception = record { buffers = refl; expander = refl; spares = refl }; knowledge = refl; sending = refl; relays = refl }
+
 pub with_room : (state : State) (r : Reception) → reception.IsAlike state.reception r → IsAlike state (record state { reception = r })
 with_room state r same = record { seat = refl; delivery = settled_itself state.delivery; reception = same; knowledge = refl; sending = refl; relays = refl }
 

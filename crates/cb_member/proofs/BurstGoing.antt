@@ -1,5 +1,5 @@
 -- A burst that is delivered as a whole: it is as if it had been taken in, and what was ready had been delivered then.
-use Rattle.std.proofs.Common.{◌≡◌, ◌≢◌, ℕ, zero, suc, ◌+◌, ◌-◌, ◌<◌, ◌≤◌, cond, eqb, max, min, All, List, [], ◌∷◌, ◌++◌, length, map, set, refl, sym, ap, subst, ◌∙◌, arith, inl, inr}
+use Rattle.std.proofs.Common.{◌≡◌, ◌≢◌, ℕ, zero, suc, ◌+◌, ◌-◌, ◌<◌, ◌≤◌, cond, eqb, max, List, [], ◌∷◌, ◌++◌, length, map, set, refl, sym, ap, subst, ◌∙◌, arith, inl, inr}
 use Rattle.std.specs.FinMap as fin
 use Rattle.std.specs.List.{range_with_len}
 use Rattle.std.proofs.lemmas.Bool.{cases_eq, eq-eqb, ne_eqb}
@@ -7,12 +7,11 @@ use Rattle.std.proofs.lemmas.List.{length-set, get_or-set_same, get_or-set_other
 use Rattle.cb_times.specs.Order.{field}
 use Rattle.cb_frames.specs.Carrying.{AreNumberedFrom}
 use Rattle.cb_frames.specs.declared.frame.Burst.{Burst}
-use Rattle.cb_frames.specs.declared.frame.Change.{Change}
-use Rattle.cb_frames.specs.Fields.{IsSome, CastFields, Carried, burst_fields, growth_in, messages_of, first_number, last_number}
-use Rattle.cb_frames.proofs.Carried.{carried_in_order, carried_up_to_the_last, carries_some, first_is_number}
+use Rattle.cb_frames.specs.Fields.{IsSome, CastFields, Carried, burst_fields, messages_of, first_number, last_number}
+use Rattle.cb_frames.proofs.Carried.{carried_in_order, carried_up_to_the_last, carries_some}
 use Rattle.cb_delay.specs.declared.message.Event.{Event}
 use Rattle.cb_delay.specs.Rule.{IsReady}
-use Rattle.cb_diffs.specs.Expansion.{expanded_field, greatest, time_of, IsGrown, IsNext}
+use Rattle.cb_diffs.specs.Expansion.{expanded_field, time_of, IsGrown, IsNext}
 use Rattle.cb_history.specs.Facts.{Fact, CastReceived, casts_in, numbers_between}
 use Rattle.cb_history.specs.View.{view, message_in}
 use Rattle.cb_history.specs.Known.{greatest_of, known, expanded_count}

@@ -50,5 +50,6 @@ pub mod TakingIn
 pub mod Telling
 pub mod Ticks
 pub mod ToldAhead
+pub mod ToldRows
 pub mod Values
 pub mod Waiting

@@ -2,7 +2,7 @@
 //!
 //! A cast that comes in order and lets no other go is the common case. Its way is compiled into one function.
 
-ghost use Rattle.std.specs.Prelude.{◌≡◌, ◌+◌, ◌≤◌, ◌++◌, ◌∷◌, [], ℕ};
+ghost use Rattle.std.specs.Prelude.{◌≡◌, ◌≢◌, ◌+◌, ◌≤◌, ◌++◌, ◌∷◌, [], ℕ, List};
 ghost use Rattle.std.specs.Vec.{vec_capacity, vec_len};
 ghost use Rattle.cb_frames.specs.declared.frame.TheConstants.{LAST_NUMBER};
 ghost use Rattle.cb_frames.specs.Fields.{cast_fields, unit_fields, first_number, last_number, CastFrame};
@@ -11,6 +11,7 @@ ghost use Rattle.cb_history.specs.Answers.{are_members};
 ghost use Rattle.cb_history.specs.Load.{FitsFrame};
 ghost use Rattle.cb_member.specs.State.{IsState};
 ghost use Rattle.cb_member.specs.Arriving.{own_verdict, FollowsFrom, JudgesCast, DeliversWith};
+ghost use Rattle.cb_member.specs.declared.arrival.course.Course.TheVariants.{Alone};
 ghost use Rattle.cb_member.specs.Course.{CanGo, DeliversWhatIsReady, GoesAllAlone, GoesAlone, HasRoomToDeliver, HasTime, IsEarly, MustWait, TakesAndDelivers, TakesAndWaits, most};
 ghost use Rattle.cb_member.specs.Foreseen.{JoinsEvents};
 ghost use Rattle.cb_member.specs.Passing.{HoldsIt, message_at};
@@ -95,9 +96,27 @@ impl State {
         ensures few { vec_len events.new ≤ vec_len events.old + most course }
     {
         match course {
+            Course::Alone { time } => self.deliver_alone(only_cast(unit), time, events),
+            course => self.go_on_course(unit, course, events),
+        }
+    }
+
+    /// As `go`, where the unit is not delivered alone.
+    #[inline(never)]
+    fn go_on_course(&mut self, unit: Unit, course: Course, events: &mut Vec<Event>)
+        requires can { CanGo (unit_fields unit) course self.old }
+        requires other { (time : List ℕ) → course ≢ Alone time }
+        requires room { vec_len events.old + most course ≤ vec_capacity events.old }
+        ensures takes { TakesAndDelivers (unit_fields unit) self.old self.new events.old.items
+            events.new.items }
+        ensures joins { JoinsEvents (unit_fields unit) course events.old.items events.new.items }
+        ensures grows { vec_len events.old ≤ vec_len events.new }
+        ensures few { vec_len events.new ≤ vec_len events.old + most course }
+    {
+        match course {
             Course::Early { spares } => self.take_early(unit, spares),
             Course::Waits { time } => self.let_wait(only_cast(unit), time),
-            Course::Alone { time } => self.deliver_alone(only_cast(unit), time, events),
+            Course::Alone { .. } => unreachable!("it has a way of its own"),
             Course::AllAlone { time, deliveries } => {
                 self.deliver_all(unit, time, deliveries, events);
             }

@@ -1,6 +1,7 @@
 //! The course of a received cast or burst: one of six ways, told before anything changes, with what is made for it.
 //!
-//! `LetsGo` would do for all of them. The others are for what comes most, and cost less.
+//! `LetsGo` would do for all of them. The others are for what comes most, and cost less. Of a cast that is delivered alone the way is
+//! compiled into one function. The other courses have functions of their own, whose variables it would have to set to zero.
 
 ghost use Rattle.std.specs.Prelude.{◌≡◌, ◌≢◌, ◌<◌, ◌≤◌, ◌+◌, ◌↔◌, All, IfOk, IfSome, IsTrue, length};
 ghost use Rattle.std.specs.FinMap as map;
@@ -77,18 +78,12 @@ impl State {
         ensures same { IsAlike self.old self.new }
         ensures course { IfOk result (λ course. CanGo (unit_fields unit.now) course self.new) }
     {
-        match unit {
-            Unit::One(cast) => {
-                if self.reception.is_in_order(cast) {
-                    return self.course_in_order(cast);
-                }
-                self.course_of_others(unit)
+        if let Unit::One(cast) = unit {
+            if self.reception.is_in_order(cast) {
+                return self.course_in_order(cast);
             }
-            Unit::Many(burst) => match self.course_of_burst(burst)? {
-                Some(course) => Ok(course),
-                None => self.course_of_others(unit),
-            },
         }
+        self.course_of_others(unit)
     }
 
     fn course_in_order(&mut self, cast: &Cast) -> Result<Course, NoMemory>
@@ -99,11 +94,28 @@ impl State {
         ensures course { IfOk result (λ course. CanGo (cast_fields cast.now) course self.new) }
     {
         let time = self.reception.expander.time_ahead(cast)?;
-        if self.is_ready_in_order(cast, &time) {
-            if self.delivery.leaves_waiting(cast.sender) {
-                return Ok(Course::Alone { time });
-            }
-        } else if self.delivery.has_none_ready() {
+        let is_ready = self.is_ready_in_order(cast, &time);
+        if is_ready && self.delivery.leaves_waiting(cast.sender) {
+            return Ok(Course::Alone { time });
+        }
+        self.course_with_others(cast, time, is_ready)
+    }
+
+    /// The course of a cast that comes in order and is not delivered alone.
+    #[inline(never)]
+    fn course_with_others(
+        &mut self,
+        cast: &Cast,
+        time: VectorTime,
+        is_ready: bool,
+    ) -> Result<Course, NoMemory>
+        requires time { HasTime (cast_fields cast.now) time self.old }
+        requires ready { IsTrue is_ready
+            ↔ IsReady cast.now.sender (field time) (field self.old.delivery.time) }
+        ensures same { IsAlike self.old self.new }
+        ensures course { IfOk result (λ course. CanGo (cast_fields cast.now) course self.new) }
+    {
+        if !is_ready && self.delivery.has_none_ready() {
             return Ok(Course::Waits { time });
         }
         let most = self.most_with(1)?;
@@ -149,6 +161,11 @@ impl State {
         ensures same { IsAlike self.old self.new }
         ensures course { IfOk result (λ course. CanGo (unit_fields unit.now) course self.new) }
     {
+        if let Unit::Many(burst) = unit {
+            if let Some(course) = self.course_of_burst(burst)? {
+                return Ok(course);
+            }
+        }
         let spares = Spares::for_cast(self.alloc, self.seat.group().size(), unit)?;
         let more = self.reception.would_expand(unit);
         if more == 0 && self.delivery.has_none_ready() {

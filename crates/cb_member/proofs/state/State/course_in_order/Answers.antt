@@ -1,19 +1,19 @@
-use Rattle.std.proofs.Common.{ℕ, ◌∙◌, List, sym, subst, true≢false, arith}
+use Rattle.std.proofs.Common.{ℕ, List, sym, subst, arith}
 use Rattle.cb_times.specs.Order.{field}
 use Rattle.cb_frames.specs.Fields.{cast_fields}
 use Rattle.cb_delay.specs.Rule.{IsReady}
 use Rattle.cb_member.specs.State.{IsAlike}
-use Rattle.cb_member.proofs.Alike.{leaves_alike, none_ready_alike, with_settled}
-use Rattle.cb_member.proofs.Courses.{has_its_time, has_time_alike, is_next, leads_on, time_fits_queue}
+use Rattle.cb_member.proofs.Alike.{alike_itself, leaves_alike, with_settled}
+use Rattle.cb_member.proofs.Courses.{has_its_time, has_time_alike, is_next, time_fits_queue}
 use Rattle.cb_member.proofs.TakingIn.{sender_is_counted}
 use Rattle.cb_member.proofs.state.State.course_in_order.Goals as goal
-use Rattle.cb_member.proofs.state.State.course_in_order.Goals.{then-is_ready_in_order+else-leaves_waiting, else-is_ready_in_order+else-has_none_ready}
+use Rattle.cb_member.proofs.state.State.course_in_order.Goals.{else-is_ready-via-then-is_ready+else-leaves_waiting, else-is_ready-via-else-is_ready}
 
 pub time_ahead-requires : goal.time_ahead-requires
 time_ahead-requires c = record { next = is_next (cast_fields c.args.cast.now) c.args.self.now c.requires.can tt c.requires.in_order }
 
-pub is_ready_in_order-requires : goal.is_ready_in_order-requires
-is_ready_in_order-requires c =
+pub is_ready_in_order-is_ready-requires : goal.is_ready_in_order-is_ready-requires
+is_ready_in_order-is_ready-requires c =
     has_its_time (cast_fields c.args.cast.now) c.in_ok-time.time c.args.self.now c.requires.can tt c.requires.in_order c.in_ok-time.ensures.time c.in_ok-time.ensures.size
 
 pub leaves_waiting-requires-clause-size : goal.leaves_waiting-requires-clause-size
@@ -30,33 +30,16 @@ returns-then-leaves_waiting-clause-course c =
     record {
       has_time = has_time_alike (cast_fields c.args.cast.now) c.in_ok-time.time c.args.self.now _ (with_settled c.args.self.now c.leaves_waiting.new.self same)
           (has_its_time (cast_fields c.args.cast.now) c.in_ok-time.time c.args.self.now c.requires.can tt c.requires.in_order c.in_ok-time.ensures.time c.in_ok-time.ensures.size);
-      ready = subst (λ (time : List ℕ). IsReady c.args.cast.now.sender (field c.in_ok-time.time) (field time)) (sym same.time) (c.is_ready_in_order.ensures.0 c.if-is_ready_in_order.true);
+      ready = subst (λ (time : List ℕ). IsReady c.args.cast.now.sender (field c.in_ok-time.time) (field time)) (sym same.time) (c.is_ready_in_order-is_ready.ensures.0 c.if-is_ready.true);
       leaves = leaves_alike c.args.cast.now.sender c.args.self.now.delivery c.leaves_waiting.new.self same (c.leaves_waiting.ensures.leaves c.if-leaves_waiting.true);
     }
 
-pub has_none_ready-requires : goal.has_none_ready-requires
-has_none_ready-requires c = time_fits_queue (cast_fields c.args.cast.now) c.args.self.now c.requires.can
-
-pub returns-then-has_none_ready-clause-course : goal.returns-then-has_none_ready-clause-course
-returns-then-has_none_ready-clause-course c =
-    let same = c.has_none_ready.ensures.same in
-    record {
-      has_time = has_time_alike (cast_fields c.args.cast.now) c.in_ok-time.time c.args.self.now _ (with_settled c.args.self.now c.has_none_ready.new.self same)
-          (has_its_time (cast_fields c.args.cast.now) c.in_ok-time.time c.args.self.now c.requires.can tt c.requires.in_order c.in_ok-time.ensures.time c.in_ok-time.ensures.size);
-      not_ready = λ ready. true≢false (sym (c.is_ready_in_order.ensures.1 (subst (λ (time : List ℕ). IsReady c.args.cast.now.sender (field c.in_ok-time.time) (field time)) same.time ready)) ∙ c.if-is_ready_in_order.false);
-      none_ready = none_ready_alike c.args.self.now.delivery c.has_none_ready.new.self same (c.has_none_ready.ensures.none c.if-has_none_ready.true);
-    }
-
-pub returns-clause-course : goal.returns-clause-course
-returns-clause-course c =
+pub course_with_others-requires-clause-time : goal.course_with_others-requires-clause-time
+course_with_others-requires-clause-time c =
     let cast = cast_fields c.args.cast.now in
     let state = c.args.self.now in
     let has = has_its_time cast c.in_ok-time.time state c.requires.can tt c.requires.in_order c.in_ok-time.ensures.time c.in_ok-time.ensures.size in
-    elim c.if-is_ready_in_order.branch [
-      | then-is_ready_in_order+else-leaves_waiting w ↦
-          leads_on cast c.in_ok-time.time state _ c.in_ok-most.most has
-          (subst (IsAlike state) (sym w.self-is) (with_settled state w.leaves_waiting.new.self w.leaves_waiting.ensures.same)) c.in_ok-most.ensures
-      | else-is_ready_in_order+else-has_none_ready w ↦
-          leads_on cast c.in_ok-time.time state _ c.in_ok-most.most has
-          (subst (IsAlike state) (sym w.self-is) (with_settled state w.has_none_ready.new.self w.has_none_ready.ensures.same)) c.in_ok-most.ensures
-    ]
+    has_time_alike cast c.in_ok-time.time state c.else-is_ready.self (elim c.else-is_ready.branch [
+      | else-is_ready-via-then-is_ready+else-leaves_waiting w ↦ subst (IsAlike state) (sym w.self-is) (with_settled state w.leaves_waiting.new.self w.leaves_waiting.ensures.same)
+      | else-is_ready-via-else-is_ready w ↦ subst (IsAlike state) (sym w.self-is) (alike_itself state)
+    ]) has

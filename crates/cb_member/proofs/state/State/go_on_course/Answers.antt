@@ -1,7 +1,7 @@
 use Rattle.std.proofs.Common.{subst}
 use Rattle.cb_frames.specs.Fields.{CastFields}
 use Rattle.cb_member.specs.Course.{TakesAndDelivers}
-use Rattle.cb_member.proofs.state.State.go.Goals as goal
+use Rattle.cb_member.proofs.state.State.go_on_course.Goals as goal
 
 pub returns-in-Early-clause-takes : goal.returns-in-Early-clause-takes
 returns-in-Early-clause-takes c = c.take_early.ensures c.args.events.now.items
