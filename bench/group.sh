@@ -14,7 +14,7 @@
 # differ from run to run; one that takes more than two minutes is no run. System calls are counted by the system for perf (Debian's
 # package linux-perf), at full speed; where it can't, by strace (package strace), which stops the threads at each call. Where there is no
 # valgrind, or neither of these, the column is left out.
-# It wants rustc, python3, and the proved program: bench/alone.sh leaves it in bench/out. PROVED=FILE measures another build.
+# It wants rustc, python3, and the program of `crates/bench`: bench/trial.py leaves it in bench/out, unproved. PROVED=FILE measures another build.
 set -eu
 here=$(cd "$(dirname "$0")" && pwd)
 work=$(mktemp -d)
@@ -25,7 +25,7 @@ if [ "${1:-}" = count ] || [ "${1:-}" = burst ]; then
     shift
 fi
 proved=${PROVED:-$here/out/group}
-[ -x "$proved" ] || "$here/alone.sh" group 3 4 5 20 channel > /dev/null
+[ -x "$proved" ] || { mkdir -p "$here/out" && "$here/trial.py" bench "$proved" group; }
 rustc --edition 2021 -O -o "$work/plain" "$here/plain_group.rs"
 python3 - "$work/plain" "$proved" "$how" "${1:-1}" <<'END'
 import os, re, shutil, subprocess, sys, time

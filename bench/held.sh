@@ -5,13 +5,13 @@
 # the other lets it go; these are taken by `receive`, and by `arrive`, and the last row says how many times as much `arrive` costs.
 # Then the most memory that the proved program has at once (dhat, bytes), for 200 deliveries where most wait: with fewer it is that of
 # making the casts, where it has two members.
-# It wants rustc, python3, valgrind, and the proved program: bench/alone.sh leaves it in bench/out. PROVED=FILE measures another build.
+# It wants rustc, python3, valgrind, and the program of `crates/bench`: bench/trial.py leaves it in bench/out, unproved. PROVED=FILE measures another build.
 set -eu
 here=$(cd "$(dirname "$0")" && pwd)
 work=$(mktemp -d)
 trap 'rm -rf "$work"' EXIT
 proved=${PROVED:-$here/out/held}
-[ -x "$proved" ] || "$here/alone.sh" held 1000 100 alone > /dev/null
+[ -x "$proved" ] || { mkdir -p "$here/out" && "$here/trial.py" bench "$proved" held; }
 rustc --edition 2021 -O -C target-cpu=x86-64-v2 -o "$work/plain" "$here/plain_held.rs"
 python3 - "$proved" "$work/plain" <<'END'
 import concurrent.futures, os, re, subprocess, sys

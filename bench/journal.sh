@@ -5,14 +5,14 @@
 # the ratio to the first. Then how long a sync takes on this machine's clock, where the files are: the difference of the last two.
 # Then how a journal grows: the bytes of the lines of messages are to be what a formula says, for payloads of 0, 32 and 1,024 bytes. At
 # last what it costs to come back by one: the instructions of an entry, and how many entries a second.
-# It wants python3, valgrind, and the proved program: bench/alone.sh leaves it in bench/out. PROVED=FILE measures another build. FOLDER=FOLDER is where the files go, else the usual place of temporary ones. It takes a minute or
+# It wants python3, valgrind, and the program of `crates/bench`: bench/trial.py leaves it in bench/out, unproved. PROVED=FILE measures another build. FOLDER=FOLDER is where the files go, else the usual place of temporary ones. It takes a minute or
 # two, and three more where a sync takes some milliseconds: it makes 20,000, since runs that sync are shorter than the others.
 set -eu
 here=$(cd "$(dirname "$0")" && pwd)
 work=$(mktemp -d -p "${FOLDER:-${TMPDIR:-/tmp}}")
 trap 'rm -rf "$work"' EXIT
 proved=${PROVED:-$here/out/journal}
-[ -x "$proved" ] || "$here/alone.sh" journal 3 5 20 memory > /dev/null
+[ -x "$proved" ] || { mkdir -p "$here/out" && "$here/trial.py" bench "$proved" journal; }
 cd "$work"
 python3 - "$proved" <<'END_OF_PYTHON'
 import pathlib, re, subprocess, sys, time

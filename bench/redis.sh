@@ -1,17 +1,17 @@
 #!/usr/bin/env bash
-# Measures a proved group in threads (`crates/bench_group`) over UDP, of 8 members that cast bursts of 8, window 32, payloads of 32 bytes, against
+# Measures a proved group in threads (`crates/bench`, group) over UDP, of 8 members that cast bursts of 8, window 32, payloads of 32 bytes, against
 # a redis server (Debian's package redis-server, on a free port, without a file) that hands the same messages on by pub/sub to plain clients
 # (`redis_clients.rs`). Both run on two processors, in turn; printed are the processor time for each delivery of seven runs of each, that of the
 # server and of its clients together, and the medians with their ratio. Where the machine does something else the numbers mean little.
 #   redis.sh        some 200,000 deliveries a run
 #   redis.sh 10     a tenth of them
-# PROVED=FILE measures another build, WINDOW=N with another window. It wants rustc, python3, redis-server and the proved program, as group.sh does.
+# PROVED=FILE measures another build, WINDOW=N with another window. It wants rustc, python3, redis-server and the program of group.sh.
 set -eu
 here=$(cd "$(dirname "$0")" && pwd)
 work=$(mktemp -d)
 trap 'rm -rf "$work"' EXIT
-proved=${PROVED:-$here/../crates/bench_group/out/bench_group}
-[ -x "$proved" ] || (cd "$here/../crates/bench_group" && rt run -- 3 4 5 20 channel > /dev/null)
+proved=${PROVED:-$here/out/group}
+[ -x "$proved" ] || { mkdir -p "$here/out" && "$here/trial.py" bench "$proved" group; }
 command -v redis-server > /dev/null || { echo "redis.sh: there is no redis-server here" >&2; exit 1; }
 rustc --edition 2021 -O -C target-cpu=x86-64-v2 -o "$work/clients" "$here/redis_clients.rs"
 python3 - "$proved" "$work" "${1:-1}" "${WINDOW:-32}" <<'END'
@@ -68,7 +68,7 @@ try:
         before = spent_by(server.pid)
         clients = run([f"{work}/clients", port, *numbers])
         theirs.append(1e6 * (clients + spent_by(server.pid) - before) / DELIVERIES)
-        ours.append(1e6 * run([proved, str(SIZE), window, str(PAYLOAD), str(CASTS), "udp", str(BURST)]) / DELIVERIES)
+        ours.append(1e6 * run([proved, "group", str(SIZE), window, str(PAYLOAD), str(CASTS), "udp", str(BURST)]) / DELIVERIES)
 finally:
     server.terminate()
     server.wait()

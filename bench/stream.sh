@@ -3,11 +3,11 @@
 # 100 KB and at 1 MB, in pieces of 1 byte, of 13, which end within most frames, and of 4,096. What is told is the difference to the same
 # program that makes the stream and reads none of it; how many times as much it is at 1 MB as at 100 KB; and, at 1 MB, how many times as
 # much as in pieces of 4,096.
-# It wants python3, valgrind, and the proved program: bench/alone.sh leaves it in bench/out. PROVED=FILE measures another build.
+# It wants python3, valgrind, and the program of `crates/bench`: bench/trial.py leaves it in bench/out, unproved. PROVED=FILE measures another build.
 set -eu
 here=$(cd "$(dirname "$0")" && pwd)
 proved=${PROVED:-$here/out/stream}
-[ -x "$proved" ] || "$here/alone.sh" stream 1000 7 > /dev/null
+[ -x "$proved" ] || { mkdir -p "$here/out" && "$here/trial.py" bench "$proved" stream; }
 python3 - "$proved" <<'END'
 import concurrent.futures, os, re, subprocess, sys
 

@@ -39,7 +39,7 @@ enum Measure {
     Soak,
 }
 
-/// The only measurement of this program: `bench/alone.sh` exchanges this line. Where a function of a member has one caller the compiler puts it in
+/// The only measurement of this program: `bench/trial.py` exchanges this line. Where a function of a member has one caller the compiler puts it in
 /// place there. In a program of several measures it has several, and each delivery would cost up to an eighth more.
 const ALONE: Option<Measure> = None;
 
