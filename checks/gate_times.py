@@ -81,7 +81,8 @@ def run_gate(command, clone):
 def crates_of(clone):
     with open(f"{clone}/crates.txt") as it:
         lines = [line.split("#")[0].partition(":") for line in it]
-    return {name.strip(): below.split() for name, colon, below in lines if colon}
+    # of `jolunza staticlib: ..` the name is the first word
+    return {name.split()[0]: below.split() for name, colon, below in lines if colon}
 
 
 def longest_chain(crates, spans):
