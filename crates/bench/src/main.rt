@@ -39,8 +39,8 @@ enum Measure {
     Soak,
 }
 
-/// The only measurement of this program: `bench/trial.py` exchanges this line. Where a function of a member has one caller the compiler puts it in
-/// place there. In a program of several measures it has several, and each delivery would cost up to an eighth more.
+/// The only measurement of this program: `bench/trial.py` exchanges this line. A function of a member that has one caller is compiled in
+/// place there. In a program of several measures it has several callers, and each delivery would cost up to an eighth more.
 const ALONE: Option<Measure> = None;
 
 /// The measurement that the first word after the program's name asks for.
