@@ -2,7 +2,7 @@
 # Looks at the pages: ends with 1, and a line for each fault, where
 #   - a line of README.md or docs/GUIDE.md has more than 120 characters, or a paragraph of either more than five lines; a line of text of any
 #     page in docs/ but that of the mutants has more than 120; README.md or docs/PERFORMANCE.md more than 120 lines;
-#   - a page has a word that was exchanged for a better one;
+#   - a page has a word that was exchanged for a better one, or checks/words.py counts more of a phrase than its limit;
 #   - a measured figure of the guide does not stand in docs/PERFORMANCE.md;
 #   - a link leads nowhere, to a file or to a heading, or a comment or script names a page of docs/ that is not there;
 #   - a code block differs from the text that it shows, or a fenced block is not closed;
@@ -159,6 +159,12 @@ def shown_at(path, mark):
     return [found.splitlines() for _, found in re.findall(rf"^(//|#) {mark}: begin\n(.*?)^\1 {mark}: end$", read(path), re.S | re.M)]
 
 
+def look_at_words():
+    counted = subprocess.run([sys.executable, "checks/words.py"], capture_output=True, text=True)
+    if counted.returncode:
+        fault("checks/words.py", 1, f"a phrase occurs too often\n{counted.stdout}{counted.stderr}")
+
+
 def stands_in(path, body):
     lines = read(path).splitlines()
     return any(lines[at : at + len(body)] == body for at in range(len(lines)))
@@ -292,6 +298,7 @@ for page in (name for name in names if name.endswith(".md")):
         todo.extend(examples(page, text))
 look_at_mutants("docs/WRONG_BODIES.md")
 look_at_figures("docs/GUIDE.md", "## Memory")
+look_at_words()
 for path in names:
     if path.endswith((".rt", ".antt", ".sh", ".py", ".md")):
         look_at_names(path)
