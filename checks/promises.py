@@ -1,6 +1,7 @@
 #!/usr/bin/env python3
 """Makes the tables of docs/PROMISES.md from the contracts: each public call with a contract, the first sentence of its doc comment, the
-names of its clauses and its file. A law is a call that does nothing. What is above the mark in the page is written by hand.
+names of its clauses and its file. A law is a call that does nothing. The paragraphs of a crate's head that begin as NOT_PROVED follow its
+table. The text above the mark in the page is written by hand.
 
   checks/promises.py           ends with 1 where the page differs from the contracts; checks/pages.sh runs this too
   checks/promises.py write     writes the page
@@ -13,6 +14,7 @@ from textwrap import wrap
 
 PAGE, MARK = "docs/PROMISES.md", "<!-- made by checks/promises.py from the contracts: run it with `write` after a change -->"
 LEFT_OUT = r"tests_\w+|bench\w*|example_member|confer_fakes|cb_handle\w*"
+NOT_PROVED = ("Only tested", "Not proved", "The premises")
 MOST_LINES_BY_HAND, WIDTH = 40, 120
 
 
@@ -121,7 +123,7 @@ def tables():
             head = paragraphs(root(crate))
             lines += ["", f"## `{crate}`", "", *wrap(head[0].strip(), WIDTH), "", "| Call | Promise | File: clauses |", "|---|---|---|", *table]
             for text in head:
-                if text.strip().startswith("Only tested"):
+                if text.strip().startswith(NOT_PROVED):
                     lines += ["", *wrap(text.strip(), WIDTH)]
     return "\n".join(lines) + "\n"
 
