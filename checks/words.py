@@ -78,11 +78,11 @@ def paragraphs(lines):
     """The paragraphs, list items and cells of numbered lines of Markdown, each as a list of numbered lines."""
     found, fenced = [[]], False
     for number, line in lines:
+        is_fence = line.lstrip().startswith("```")
+        fenced ^= is_fence
         text = re.sub(r"`[^`]*`", "CODE", line.strip())
         text = re.sub(r"\[([^\]]*)\]\([^)]*\)", r"\1", text)
-        if text.startswith("```"):
-            fenced = not fenced
-        if fenced or not text or text.startswith(("```", "#", "<!--", "|--", "---")):
+        if fenced or is_fence or not text or text.startswith(("#", "<!--", "|--", "---")):
             found.append([])
         elif text.startswith("|"):
             found.extend([(number, cell.strip())] for cell in text.strip("|").split("|"))
