@@ -2,7 +2,9 @@
 """Counts the turns of phrase that hinder a reader, and ends with 1 where one occurs more often than its limit here allows.
 
 The three columns are the pages, the doc comments of the crates, and the bindings' header, doc comments and docstrings. Code blocks,
-code within a line, headings and questions are left out. A limit is the count of the day it was written: it is only ever lowered.
+code within a line, headings, questions and the part of a page that a script makes are left out. A limit is the count of the day that it was
+written, and is only ever lowered. The goals, over all columns: 18 of "so many" and "as many", 20 of "behind", 7 comments that begin with
+What; in pages 11 of "stands" and 19 of "says" and "tells".
 
   checks/words.py              prints the table; checks/pages.sh runs this too
   checks/words.py FILE..       prints each place in these files, and counts nothing
@@ -45,23 +47,23 @@ PATTERNS = {
 }
 LIMITS = {
     "Who ..": [6, 41, 0],
-    "What ..": [118, 512, 17],
-    "Of ..": [42, 74, 2],
-    "So ..": [55, 62, 1],
-    "Where ..": [43, 94, 3],
-    "That ..": [27, 10, 0],
+    "What ..": [86, 512, 17],
+    "Of ..": [32, 74, 2],
+    "So ..": [49, 62, 1],
+    "Where ..": [31, 94, 3],
+    "That ..": [15, 10, 0],
     "a comment begins with What": [0, 456, 15],
-    "so many, as many": [48, 229, 4],
-    "behind": [132, 165, 4],
-    "in front of": [6, 7, 0],
-    "stands": [129, 184, 2],
-    "says": [316, 335, 20],
-    "tells, is told": [38, 62, 10],
+    "so many, as many": [21, 229, 4],
+    "behind": [67, 165, 4],
+    "in front of": [2, 7, 0],
+    "stands": [89, 184, 2],
+    "says": [187, 335, 19],
+    "tells, is told": [20, 62, 10],
     "is had": [2, 0, 0],
-    "goes": [69, 70, 6],
-    "hands out": [51, 57, 0],
-    "leaves": [90, 22, 4],
-    "the ten phrases": [6, 3, 0],
+    "goes": [43, 70, 3],
+    "hands out": [28, 57, 0],
+    "leaves": [25, 22, 4],
+    "the ten phrases": [3, 3, 0],
 }
 
 
