@@ -15,7 +15,7 @@
 # it shows some lines of PATH. So do ```c and, with `#` for `//`, ```python. In the pages of
 # bindings/ a block without PATH is left to the tests there.
 #   checks/pages.sh          all of it; an example takes a minute or two. JOBS=4 runs four at a time; two if not said
-#   checks/pages.sh text     all but the examples, in a second
+#   checks/pages.sh text     all but the examples, in some seconds
 #   checks/pages.sh WORD     all, but of the examples only those whose commands have this word
 set -u
 top=$(cd "$(dirname "$0")/.." && pwd)
