@@ -107,7 +107,8 @@ def rows(crate):
             elif of:
                 shown = is_public and bare(of[1]) in names and f"{bare(of[1])}::{name}"
             else:
-                shown = is_public and (name in names or module.split("/")[0] in modules or module == "lib") and name
+                is_exported = name in names or module == "lib" or module.split("/")[0] in (*modules, "laws")
+                shown = is_public and is_exported and name
             if shown:
                 said = [clause for clause in clauses if clause]
                 row = f"| {'law ' if is_law else ''}`{shown}` | {first_sentence(doc)} | "
