@@ -1,15 +1,15 @@
 """One member of a causal group (CBCAST of Birman, Schiper and Stephenson, 1991), proved: a shell of ctypes over libjolunza.so.
 
-A member is a machine without clock, thread or socket. The program hands it the received frames, and ticks it now and then. Each call
-answers an `Output`: the frames to be sent, and the events to be shown. A call that is refused raises a `Refusal`, and changes nothing;
-the header `bindings/c/jolunza.h` says of each call what is refused.
+A member is a machine without clock, thread or socket. The program passes it the received frames, and ticks it now and then. Each call
+returns an `Output`: the frames to be sent, and the events to be shown. A call that is refused raises a `Refusal`, and changes nothing;
+the header `bindings/c/jolunza.h` lists the refusals of each call.
 
     member = Member(group=7, size=3, window=16, me=0)
     output = member.cast(b"when?")
     for frame in output.frames:
         send(frame.to, frame.bytes)  # `to` is None for all others
 
-A `Journal` is a member that comes back after its process was killed: a file has what it did.
+A `Journal` is a member that comes back after its process was killed: a file records its calls.
 
 Linux on x86-64, Python 3.9 or later, the standard library alone.
 """
@@ -42,7 +42,7 @@ Given = Union[bytes, bytearray, memoryview]
 
 
 class Code(enum.IntEnum):
-    """The answers of the calls: the names of the header without `JOLUNZA_`. The header says what each means and what to do."""
+    """The answers of the calls: the names of the header without `JOLUNZA_`. The header explains what each means and what to do."""
 
     DONE = 0
     CLOSED = 1
@@ -119,7 +119,7 @@ class JolunzaError(Exception):
 
 
 class Refusal(JolunzaError):
-    """A call was refused, and nothing has changed. `code` says why, and `call` is the name of the call. BAD_LINE and NOT_LEGAL have the
+    """A call was refused, and nothing has changed. `code` is the reason, and `call` is the name of the call. BAD_LINE and NOT_LEGAL have the
     `line` of the journal, the head line being 1; `path` names the file, where the journal is one."""
 
     def __init__(self, code: Code, call: str, line: Optional[int] = None, path: Optional[str] = None) -> None:
@@ -415,8 +415,8 @@ FUNCTIONS: dict[str, tuple[Any, list[tuple[str, Any]]]] = {
 
 
 def library_path() -> str:
-    """Where the library is: in the folder JOLUNZA_LIB where that is set, else in the first of these folders that contains it: this module's,
-    bindings/out, which bindings/build.sh fills, and bindings/prebuilt. Else it is where the system's loader looks."""
+    """The path of the library: in the folder JOLUNZA_LIB if that is set, else in the first of these folders that contains it: this module's,
+    bindings/out, which bindings/build.sh fills, and bindings/prebuilt. Else the system's loader looks for it."""
     folder = os.environ.get("JOLUNZA_LIB")
     if folder:
         return os.path.join(os.path.abspath(folder), LIBRARY)
@@ -443,7 +443,7 @@ def library() -> ctypes.CDLL:
 
 
 def sender(frame: Given) -> tuple[int, int]:
-    """The group number of a frame, and which member sent it: of a request or a help frame the one that asks. Only what the frame says:
+    """The group number of a frame, and which member sent it: of a request or a help frame the one that asks. They are only claims of the frame:
     anybody can write it. MALFORMED where the bytes are no frame."""
     given, group, member = _given(frame), c_uint32(), c_uint32()
     code = library().jolunza_sender(given, len(given), byref(group), byref(member))
@@ -473,11 +473,11 @@ _AMember = TypeVar("_AMember", bound="Member")
 
 
 class Member:
-    """Opens a member; `close`, the end of a `with`, or its last use frees it. Its `settings` say which one it is. Each member number of a
+    """Opens a member; `close`, the end of a `with`, or its last use frees it. Its `settings` name it. Each member number of a
     group is opened once in the world, and a forked process uses no member of its parent. A `Journal` comes back.
 
-    Threads may share a member: a call waits for the one before, and its answer is of this call alone. A signal handler makes no call, since
-    it would wait for ever; an exception that it raises during a call takes the answer with it.
+    Threads may share a member: a call waits for the one before, and its output belongs to this call alone. A signal handler makes no call, since
+    it would wait for ever; an exception that it raises during a call loses the output.
 
     It keeps no history, its memory stays bounded, and HISTORY_FULL never comes. With a history, of at most `history_max` entries, an
     audit can read all that it did.
@@ -570,10 +570,9 @@ class Member:
 
     def receive_parts(self, first: int, lengths: Sequence[int]) -> tuple[int, Output]:
         """Takes parts of the loaded bytes in one call, one after another as `receive_loaded` takes one: the first part from the byte that
-        has `first` before it, each other from the end of the one before it on, and `lengths` says how long each is. Answers how many were
-        taken, and what they did. One at least is, else the refusal is that of the first part, and nothing has changed. A part that leaves
-        frames to be sent is the last that is taken. Else fewer than all are taken where the next part is refused: call again from that part
-        on."""
+        has `first` before it, each other from the end of the one before it on, with these `lengths`. Returns how many were taken, and their
+        output. At least one is taken; else the refusal is that of the first part, and nothing has changed. A part with frames to be sent is
+        the last that is taken. Fewer than all are also taken if the next part is refused: call again from that part on."""
         numbers, taken = [_number(value, 64) for value in (first, *lengths)], c_size_t()
         given = (c_size_t * (len(numbers) - 1))(*numbers[1:])
         output = self._done(Call("receive_parts", (numbers[0], given, len(given), byref(taken))))
@@ -603,7 +602,7 @@ class Member:
 
     def events(self, first: int = 0) -> Iterator[Event]:
         """The casts and deliveries of the history in order, from the one that has `first` before it. Without a history there are those that
-        `counts` says: before its first call a member that came back has all of its journal."""
+        `counts` counts: before its first call a member that came back has all of its journal."""
         with self._lock:
             more = self._events(_number(first, 64))
         while more:
@@ -613,7 +612,7 @@ class Member:
                 more = self._events(first)
 
     def entries(self, first: int = 0) -> Iterator[Entry]:
-        """The history in its order, from the entry that has `first` before it. Without a history there are those that `counts` says."""
+        """The history in its order, from the entry that has `first` before it. Without a history there are those that `counts` counts."""
         for index in range(_number(first, 64), self.counts().entries):
             with self._lock:
                 entry = self._entry(index, self._MANY)

@@ -113,7 +113,7 @@ impl FrameBuffer {
         frames + self.copy(handle, frames, used)
     }
 
-    /// Copies those that fit behind what is there, and answers how many.
+    /// Copies those that fit after the copied ones, and returns how many.
     #[inline]
     unsafe fn copy(&mut self, handle: *mut sys::jolunza_handle, frames: usize, used: usize) -> usize {
         let (heads, bytes) = (&mut self.heads[frames..], &mut self.bytes[used..]);

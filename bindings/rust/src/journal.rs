@@ -9,13 +9,13 @@ use std::ops::{Range, RangeBounds};
 use std::path::{Path, PathBuf};
 use std::sync::Arc;
 
-/// A member, and in a file what it did, so that it comes back after its process was killed.
+/// A member with a file that records its calls, so that it comes back after its process was killed.
 ///
-/// A call writes its entry and waits until it is on the disk; only then it answers what is to be sent and shown. So nothing
-/// is known to others that the file does not have. A process that opens the file while another one has it is answered `InUse`: two
-/// that come back by one journal are one member twice.
+/// A call writes its entry and waits until it is on the disk; only then it returns the frames to send and the events to show. Others
+/// therefore know nothing that the file does not have. If another process has the file open, `open` returns `InUse`: two processes that
+/// come back from one journal are one member twice.
 ///
-/// A call answers a result in a result. The outer one is the file's: after a [`JournalFault`] end, and come back. The inner one is the
+/// A call returns a result in a result. The outer one is the file's: after a [`JournalFault`] end, and come back. The inner one is the
 /// member's: a [`Refusal`] has changed nothing. [`Journal::turn`] makes several calls, and waits for the disk once.
 ///
 /// ```

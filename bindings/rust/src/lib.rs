@@ -62,9 +62,9 @@
 //! # Ok::<(), Refusal>(())
 //! ```
 //!
-//! A [`Journal`] is a member with a file of what it did, which brings it back after its process was killed.
+//! A [`Journal`] is a member with a file that records its calls and brings it back after its process was killed.
 //!
-//! A member goes to another thread, and no two threads use one at a time:
+//! You can move a member to another thread, and only one thread at a time uses it:
 //!
 //! ```
 //! fn goes<T: Send>() {}
@@ -76,7 +76,7 @@
 //! is_shared::<jolunza::Member>();
 //! ```
 //!
-//! What a call answers is dealt with before the next call, and not left out:
+//! The output of a call is used before the next call, and is never ignored:
 //!
 //! ```compile_fail,E0499
 //! # use jolunza::{Member, Settings};
