@@ -13,6 +13,7 @@ shown, and compared with what was delivered, and nothing is drawn by them but ca
 from __future__ import annotations
 
 import argparse
+import bisect
 import dataclasses
 import enum
 import heapq
@@ -33,12 +34,10 @@ class Fault(Exception):
 
 # ---- what the files contain
 
-NUMBER = "(0|[1-9][0-9]{0,9})"
-HEAD = re.compile(f"cbcast 1 group {NUMBER} size {NUMBER} window {NUMBER}(?: member {NUMBER})?")
-MEMBER = re.compile(f"member {NUMBER} entries {NUMBER}")
-ENTRY = re.compile(r"(cast|tick|arrive) ((?:[0-9a-f]{2})+)((?<=..)(?: -|(?: [0-9]+\.[0-9]+)+))?")
-NAME = re.compile(r"(0|[1-9][0-9]?)\.([1-9][0-9]{0,9})")
-END = re.compile("end")
+NUMBER, HEX, NAME = "(?:0|[1-9][0-9]{0,9})", "(?:[0-9a-f]{2})+", r"(?:0|[1-9][0-9]?)\.[1-9][0-9]{0,9}"
+HEAD = re.compile(f"cbcast 1 group ({NUMBER}) size ({NUMBER}) window ({NUMBER})(?: member ({NUMBER}))?")
+MEMBER_OR_END = re.compile(f"member ({NUMBER}) entries ({NUMBER})|end")
+ENTRY = re.compile(f"(cast|tick) ({HEX})|(arrive) ({HEX}) (-|{NAME}(?: {NAME})*)")
 
 
 class Name(NamedTuple):
@@ -90,26 +89,26 @@ class Text:
     def take(self, form: re.Pattern[str], wanted: str) -> re.Match[str]:
         self._taken += 1
         if self.left < 0:
-            raise Fault(f"{self.place}: the file is cut: {wanted} is missing here")
+            raise Fault(f"{self.place}: the file is cut: {wanted} is missing")
         match = form.fullmatch(self._lines[self._taken - 1])
         if not match:
-            raise Fault(f"{self.place}: this line is not {wanted}")
+            raise Fault(f"{self.place}: the line is not {wanted}")
         return match
 
 
 def name_of(word: str) -> Optional[Name]:
-    match = NAME.fullmatch(word)
-    name = Name(int(match[1]), int(match[2])) if match else None
-    return name if name and name.sender < MOST_MEMBERS and name.number <= LAST_NUMBER else None
+    if not re.fullmatch(NAME, word):
+        return None
+    name = Name(*map(int, word.split(".")))
+    return name if name.sender < MOST_MEMBERS and name.number <= LAST_NUMBER else None
 
 
 def take_entry(text: Text, wanted: str) -> Entry:
     match = text.take(ENTRY, wanted)
-    words = (match[3] or "").split()
-    names = [name_of(word) for word in words if word != "-"]
-    if None in names or (match[1] == "arrive") != bool(words):
-        raise Fault(f"{text.place}: this line is not {wanted}")
-    return Entry(text.place, match[1], bytes.fromhex(match[2]), tuple(filter(None, names)))
+    names = [name_of(word) for word in (match[5] or "-").split() if word != "-"]
+    if None in names:
+        raise Fault(f"{text.place}: the line is not {wanted}")
+    return Entry(text.place, match[1] or match[3], bytes.fromhex(match[2] or match[4]), tuple(filter(None, names)))
 
 
 def take_entries(text: Text, member: int, count: int) -> list[Entry]:
@@ -118,20 +117,21 @@ def take_entries(text: Text, member: int, count: int) -> list[Entry]:
 
 def member_of(text: Text, word: str, group: Group) -> int:
     if int(word) >= group.size:
-        raise Fault(f"{text.place}: member {word} is out of range: the group has the members 0 to {group.size - 1}")
+        raise Fault(f"{text.place}: member {word} is out of range: the members are 0 to {group.size - 1}")
     return int(word)
 
 
-def histories_in_trace(text: Text, group: Group) -> Iterator[History]:
-    either = re.compile(f"{MEMBER.pattern}|end")
+def histories_in_trace(text: Text, group: Group) -> list[History]:
+    found: list[History] = []
     while True:
-        match = text.take(either, "`member I entries C` or `end`")
+        match = text.take(MEMBER_OR_END, "`member I entries C`, or `end` behind the last member")
         if match[0] == "end":
             break
         place, member = text.place, member_of(text, match[1], group)
-        yield History(place, member, take_entries(text, member, int(match[2])))
-    if text.left or text.torn:
-        text.take(re.compile("(?!)"), "allowed: `end` is the last line")
+        found.append(History(place, member, take_entries(text, member, int(match[2]))))
+    if text.left or text.torn or not found:
+        raise Fault(f"{text.place}: `end` is the last line, and not the first behind the head")
+    return found
 
 
 def read(path: str, data: bytes) -> tuple[Group, list[History]]:
@@ -142,7 +142,7 @@ def read(path: str, data: bytes) -> tuple[Group, list[History]]:
     if group.number > LAST_NUMBER or not 2 <= group.size <= MOST_MEMBERS or not 1 <= group.window <= 256:
         raise Fault(f"{text.place}: a group has a number of 32 bits, 2 to {MOST_MEMBERS} members, and a window of 1 to 256")
     if match[4] is None:
-        return group, list(histories_in_trace(text, group))
+        return group, histories_in_trace(text, group)
     place, member = text.place, member_of(text, match[4], group)
     history = History(place, member, take_entries(text, member, text.left))
     if text.torn:
@@ -325,6 +325,7 @@ class Run:
             if member not in self.given:
                 self.lines[member] = self._casts_by_frames(member, arrived)
         self.casts = {point.name: point for line in self.lines for point in line if point.kind is Kind.CAST}
+        self._numbers = [[point.name.number for point in line if point.kind is Kind.CAST] for line in self.lines]
         for line in self.lines:
             self._link(line)
 
@@ -369,14 +370,14 @@ class Run:
             last, event = point, point if point.is_event else event
 
     def _known_by_time(self, cast: Point) -> list[Point]:
-        """Of each other sender the last cast that is here and that this time says was delivered."""
+        """Of each other sender the last cast that is here of those that had been delivered by this time."""
         known = []
         for member, number in enumerate(cast.time or ()):
-            before = [point for point in self.lines[member] if point.kind is Kind.CAST and point.name.number <= number]
-            if member != cast.member and before:
-                known.append(before[-1])
-            if member in self.given and member != cast.member and number > (before[-1].name.number if before else 0):
+            if member in self.given and Name(member, number) not in self.casts and number:
                 raise Fault(f"{cast.place}: {cast.name} was cast behind {member}.{number}, which is not cast in {self._file(member)}")
+            behind = bisect.bisect_right(self._numbers[member], number)
+            if member != cast.member and behind:
+                known.append(self.casts[Name(member, self._numbers[member][behind - 1])])
         return known
 
 
@@ -463,9 +464,9 @@ NAME_SIZE, TIME_SIZE, EM = 10, 7.5, 0.62  # of the letters, and the width of one
 UP, TIME_DOWN = 14, 8  # how far a label goes above its line, and each row of a time below it
 FIELDS_IN_ROW = 8
 BESIDE, BETWEEN = 3, 7  # from a point to its label, and from there to the next
-LEFT, TOP, LEAST_FLIGHT, FLIGHT_FOR_ROW = 74, 28, 22, 7
-STEP, POINT_COST, LABEL_COST = 4, 400, 30  # how a place is looked for
-
+LEFT, TOP, LEAST_FLIGHT, FLIGHT_FOR_ROW = 74, 30, 22, 6
+LANE, BEHIND_LANE, ROOM = 4, 9, 16  # how far lanes are apart, how far they end before the point, and steps of their length
+STEP, POINT_COST, LEAST_COST, COST_OF_ALL = 4, 1200, 16, 400  # how a place is looked for
 
 Stretch = Optional[Tuple[float, float]]  # from a left to a right x; None is empty
 
@@ -490,33 +491,54 @@ class Stretches:
         return sum(left < stretch[1] and stretch[0] < right for cell in self._cells_of(stretch) for left, right in self._cells.get(cell, ()))
 
 
-class Arrow(NamedTuple):
-    """The straight line from a cast to where its message comes to."""
+class Piece(NamedTuple):
+    """A straight piece of an arrow, which is not horizontal."""
 
-    x: int
-    y: int
-    to_x: int
-    to_y: int
+    x: float
+    y: float
+    to_x: float
+    to_y: float
 
-    def at(self, y: int, up: float, down: float) -> Stretch:
-        """Between which x it is less than that above or below this y; on the rows where it begins and ends, without what touches its own points."""
+    def at(self, y: float, up: float, down: float, clear: float) -> Stretch:
+        """Between which x it is less than that above or below this y; on the rows where it begins and ends without so much behind its end."""
         slope, (top, bottom) = (self.to_x - self.x) / (self.to_y - self.y), sorted((self.y, self.to_y))
+        if bottom <= y - up or y + down <= top:
+            return None
         ends = [self.x + (min(max(height, top), bottom) - self.y) * slope for height in (y - up, y + down)]
-        left = max(min(ends), self.x + 2 * WIDEST_RADIUS if y == self.y else self.x)
-        right = min(max(ends), self.to_x - 2 * WIDEST_RADIUS if y == self.to_y else self.to_x)
+        left = max(min(ends), self.x + clear) if y == self.y else min(ends)
+        right = min(max(ends), self.to_x - clear) if y == self.to_y else max(ends)
         return (left, right) if left < right else None
 
-    def over_points(self, y: int) -> Stretch:
-        near = WIDEST_RADIUS + 1
-        found = self.at(y, near, near)
-        return (found[0] - near, found[1] + near) if found and y not in (self.y, self.to_y) else found
+    def over_points(self, y: float) -> Stretch:
+        found = self.at(y, WIDEST_RADIUS + 1, WIDEST_RADIUS + 1, 2 * WIDEST_RADIUS)
+        near = WIDEST_RADIUS - 1 if y not in (self.y, self.to_y) else 0
+        return (found[0] - near, found[1] + near) if found else None
+
+    def over_labels(self, y: float, down: float) -> Stretch:
+        return self.at(y, UP, down, 2 * WIDEST_RADIUS)
+
+
+Route = Tuple[Piece, ...]  # one piece, or one to a lane and one from there
 
 
 class Row:
-    """What stands on a member's line: points and labels, and the stretches over which arrows pass at their height."""
+    """What stands on a member's line and beside it: points and labels, the stretches over which arrows pass at their height, and the lanes
+    above and below it for arrows that come late."""
 
     def __init__(self) -> None:
         self.points, self.labels, self.arrows_at_points, self.arrows_at_labels = (Stretches() for _ in range(4))
+        self.lanes: dict[bool, list[Stretches]] = {True: [], False: []}
+
+    def lane(self, is_above: bool, stretch: Stretch) -> int:
+        """The first lane that is free there."""
+        lanes = self.lanes[is_above]
+        return next((number for number, lane in enumerate(lanes) if not lane.meeting(stretch)), len(lanes))
+
+    def keep_lane(self, is_above: bool, stretch: Stretch) -> None:
+        lanes, number = self.lanes[is_above], self.lane(is_above, stretch)
+        if number == len(lanes):
+            lanes.append(Stretches())
+        lanes[number].add(stretch)
 
 
 def flight_of(point: Point) -> Optional[Point]:
@@ -525,19 +547,24 @@ def flight_of(point: Point) -> Optional[Point]:
 
 
 class Layout:
-    """Gives each point its x. It is greater than those of all that happened before; labels do not meet, no arrow passes a point that is
-    not its end, and arrows pass labels only where there is no other place nearby."""
+    """Gives each point its x. It is greater than those of all that happened before, and labels do not meet. An arrow is straight, or, where
+    it would then pass through points or labels, goes to a lane beside the line of its receiver, and along it."""
 
-    def __init__(self, run: Run) -> None:
-        self.run, self._rows = run, [Row() for _ in run.lines]
+    def __init__(self, run: Run, lanes: int) -> None:
+        self._rows = [Row() for _ in run.lines]
         self._digits = max([len(str(count)) for point in run.points for count in point.time or ()] or [1])
         rows_of_time = 1 if run.group.size <= 4 else -(-run.group.size // FIELDS_IN_ROW)
         self.down = 6 + TIME_DOWN * rows_of_time
-        self.pitch = 52 + self.down
+        self.pitch = UP + self.down + 2 * LANE * (lanes + 1)
+        # few members leave room for straight arrows that pass no label
+        self._lane_cost = max(LEAST_COST, COST_OF_ALL // run.group.size)
+        self._label_cost = self._lane_cost + LEAST_COST
+        self.routes: dict[Point, Route] = {}
         for point in walk(run.points, self._least):
-            point.x = self._place(point)
-            self._keep(point)
+            point.x, route = self._place(point)
+            self._keep(point, route)
         self.right = round(max([self._ends(point, point.x)[1] for point in run.points] or [LEFT])) + 12
+        self.lanes_used = max(len(lanes) for row in self._rows for lanes in row.lanes.values())
 
     def y(self, member: int) -> int:
         return TOP + member * self.pitch
@@ -566,45 +593,91 @@ class Layout:
             flight = LEAST_FLIGHT + FLIGHT_FOR_ROW * rows
             beside = self._ends(other, other.x)[1] + BETWEEN - self._ends(point, 0)[0]
             least = max(least, other.x + flight if rows else beside)
-        return int(-(-least // 1))
+        return math.ceil(least)
 
-    def _place(self, point: Point) -> int:
+    def _place(self, point: Point) -> tuple[int, Route]:
         """Where it costs least: a way to the right as much as it is long, and what is in the way as much as some way."""
         x = least = self._least(point)
-        best = (math.inf, x)
+        first_pieces: dict[tuple[int, int], Piece] = {}
+        best: tuple[float, int, Route] = (math.inf, x, ())
         while x - least < best[0]:
-            at_points, at_labels = self._meeting(point, x)
-            best = min(best, (x - least + POINT_COST * at_points + LABEL_COST * at_labels, x))
+            cost = x - least + self._cost_of_standing(point, x)
+            for route in self._routes(point, x, first_pieces) if cost < best[0] else ():
+                best = min(best, (cost + self._cost(route, best[0] - cost), x, route))
             x += STEP
-        return best[1]
+        return best[1:]
 
-    def _crossings(self, point: Point, x: int) -> Iterator[tuple[Row, Stretch, Stretch]]:
-        """For each row that the arrow to the point meets: where it is at the height of points, and where at that of labels."""
+    def _routes(self, point: Point, x: int, first_pieces: dict[tuple[int, int], Piece]) -> Iterator[Route]:
+        """The straight one, and the one by a lane. `first_pieces` keeps what was found by earlier calls: they hardly differ."""
         cast = flight_of(point)
         if cast is None:
+            yield ()
             return
-        arrow = Arrow(cast.x, self.y(cast.member), x, self.y(point.member))
-        for member in range(min(cast.member, point.member), max(cast.member, point.member) + 1):
-            y = self.y(member)
-            yield self._rows[member], arrow.over_points(y), arrow.at(y, UP, self.down)
+        start, end = self.y(cast.member), self.y(point.member)
+        yield (Piece(cast.x, start, x, end),)
+        is_above = start < end
+        lane = self._rows[point.member].lane(is_above, (cast.x, x))
+        y = end - UP - LANE * (lane + 1) if is_above else end + self.down + LANE * (lane + 1)
+        room = (x - BEHIND_LANE - cast.x) // ROOM * ROOM
+        if (y, room) not in first_pieces:
+            first_pieces[y, room] = self._piece_to_lane(cast, y, room)
+        yield first_pieces[y, room], Piece(x - BEHIND_LANE, y, x, end)
 
-    def _meeting(self, point: Point, x: int) -> tuple[int, int]:
-        """How often it would stand under an arrow, or its arrow go over a point; and the same of labels."""
+    def _piece_to_lane(self, cast: Point, y: float, room: int) -> Piece:
+        start = self.y(cast.member)
+        least = min(room - STEP, 6 + abs(y - start) // 32)
+        best: tuple[float, Route] = (math.inf, ())
+        for before in range(least, min(room, least + 160), STEP):
+            route = (Piece(cast.x, start, cast.x + before, y),)
+            best = min(best, (self._cost(route, best[0]), route))
+            if not best[0]:
+                break
+        return best[1][0]
+
+    def _crossings(self, route: Route) -> Iterator[tuple[Row, Stretch, Stretch]]:
+        """For each row that a piece of it meets: where it is at the height of points, and where at that of labels."""
+        for piece in route:
+            top, bottom = sorted((piece.y, piece.to_y))
+            first, last = (int((height - TOP) // self.pitch) for height in (top - self.down, bottom + UP))
+            for member in range(max(first, 0), min(last, len(self._rows) - 1) + 1):
+                y = self.y(member)
+                yield self._rows[member], piece.over_points(y), piece.over_labels(y, self.down)
+
+    def _cost_of_standing(self, point: Point, x: int) -> int:
+        """The point or its label may be under an arrow."""
         row, radius = self._rows[point.member], RADIUS[point.kind]
         at_points = row.arrows_at_points.meeting((x - radius, x + radius))
-        at_labels = row.arrows_at_labels.meeting(self._ends(point, x))
-        for other, over_points, over_labels in self._crossings(point, x):
-            at_points += other.points.meeting(over_points)
-            at_labels += other.labels.meeting(over_labels)
-        return at_points, at_labels
+        return POINT_COST * at_points + self._label_cost * row.arrows_at_labels.meeting(self._ends(point, x))
 
-    def _keep(self, point: Point) -> None:
+    def _cost(self, route: Route, most: float) -> int:
+        """An arrow may be over points or labels. Of a route that costs more than the most only that it does."""
+        cost = self._lane_cost if len(route) == 2 else 0
+        for row, over_points, over_labels in self._crossings(route):
+            if cost > most:
+                break
+            cost += POINT_COST * row.points.meeting(over_points) + self._label_cost * row.labels.meeting(over_labels)
+        return cost
+
+    def _keep(self, point: Point, route: Route) -> None:
         row, radius = self._rows[point.member], RADIUS[point.kind]
         row.points.add((point.x - radius, point.x + radius))
         row.labels.add(self._ends(point, point.x))
-        for other, over_points, over_labels in self._crossings(point, point.x):
+        for other, over_points, over_labels in self._crossings(route):
             other.arrows_at_points.add(over_points)
             other.arrows_at_labels.add(over_labels)
+        if len(route) == 2:
+            row.keep_lane(route[0].y < route[1].to_y, (route[0].x, point.x))
+        self.routes[point] = route
+
+
+def laid_out(run: Run) -> Layout:
+    """With as much room between the lines as their lanes need."""
+    lanes = 4
+    while True:
+        layout = Layout(run, lanes)
+        if layout.lanes_used <= lanes:
+            return layout
+        lanes = layout.lanes_used
 
 
 # ---- the picture
@@ -616,7 +689,7 @@ SHAPES = f"""
 text {{ font-family: {FONT}; font-size: {NAME_SIZE}px; stroke-width: 3px; stroke-linejoin: round; paint-order: stroke; }}
 .time {{ font-size: {TIME_SIZE}px; white-space: pre; }}
 .cast .label {{ text-anchor: end; }}
-path {{ fill: none; stroke-width: 1.1; }}
+path {{ fill: none; stroke-linejoin: round; stroke-width: 1.1; }}
 .waiting {{ stroke-width: 2.5; }}
 .wait circle {{ stroke-width: 1.6; }}
 .not-given {{ stroke-dasharray: 3 4; }}
@@ -635,7 +708,7 @@ circle {{ fill: {of["ink"]}; }}
 .wait circle {{ fill: {of["ground"]}; stroke: {of["wait"]}; }}
 .waiting {{ stroke: {of["wait"]}; }}
 .wait text {{ fill: {of["wait"]}; }}
-.line.past, .arrow.past {{ stroke: {of["past"]}; }}
+.line.past, .arrow.past {{ stroke: {of["past"]}; stroke-width: 1.6; }}
 .past circle, .past text, .asked circle, .asked text {{ fill: {of["past"]}; }}
 .asked circle {{ stroke: {of["past"]}; stroke-opacity: 0.35; }}
 """
@@ -646,26 +719,32 @@ def decimal(value: float) -> str:
     return f"{value:.1f}".removesuffix(".0")
 
 
+def at(place: tuple[float, float]) -> str:
+    return f"{decimal(place[0])} {decimal(place[1])}"
+
+
 class Picture:
     """The text of the SVG. Where a message is asked for, the events of its past are in the class `past`, and all others in `rest`."""
 
     def __init__(self, run: Run, asked: Optional[Point]) -> None:
-        self._run, self._asked, self._layout = run, asked, Layout(run)
+        self._run, self._asked, self._layout = run, asked, laid_out(run)
         self._past = past_of(asked) if asked else set()
         self._bottom = self._layout.y(run.group.size - 1) + self._layout.down + 38
-        self._width = max(self._layout.right, 660 if asked else 460) + 8
+        self._right = max(self._layout.right, 660 if asked else 460)
 
     def text(self) -> str:
         group = self._run.group
-        size = f'width="{self._width}" height="{self._bottom}" viewBox="0 0 {self._width} {self._bottom}"'
+        width, height = self._right + 8, self._bottom
+        size = f'width="{width}" height="{height}" viewBox="0 0 {width} {height}"'
         dark = "".join(f"  {line}\n" for line in colours(DARK).strip().splitlines())
         style = f"{SHAPES}{colours(LIGHT).lstrip()}@media (prefers-color-scheme: dark) {{\n{dark}}}\n"
         about = f"What {group.size} members of group {group.number} cast and delivered" + (f", and the past of {self._asked.name}" if self._asked else "")
         parts = [f'<svg xmlns="http://www.w3.org/2000/svg" {size} role="img">', f"<title>{about}</title>", f"<style>{style}</style>"]
-        parts.append(f'<rect class="ground" width="{self._width}" height="{self._bottom}" rx="6"/>')
+        parts.append(f'<rect class="ground" width="{width}" height="{height}" rx="6"/>')
         for member, points in enumerate(self._run.lines):
             parts += self._line(member, points)
-        parts += [self._arrow(point) for point in self._run.points if point.kind is Kind.DELIVERY]
+        deliveries = [point for point in self._run.points if point.kind is Kind.DELIVERY]
+        parts += [self._arrow(point) for point in sorted(deliveries, key=lambda point: point in self._past)]
         parts += [self._point(point) for point in self._run.points]
         return "\n".join([*parts, self._legend(), "</svg>", ""])
 
@@ -677,19 +756,19 @@ class Picture:
     def _line(self, member: int, points: list[Point]) -> Iterator[str]:
         """The member's line; over it what is in the past, and where messages wait."""
         y, given = self._layout.y(member), "" if member in self._run.given else " not-given"
-        yield f'<text x="12" y="{y + 4}">member {member}</text><path class="line{given}" d="M{LEFT} {y}H{self._layout.right}"/>'
-        for point in [point for point in points if point is self._asked or point in self._past][-1:]:
-            yield f'<path class="line past{given}" d="M{LEFT} {y}H{point.x}"/>'
+        yield f'<text x="12" y="{y + 4}">member {member}</text><path class="line{given}" d="M{LEFT} {y}H{self._right}"/>'
         state = " rest" if self._asked else ""
         for left, right in self._waiting(points):
             yield f'<path class="waiting{state}" d="M{left} {y}H{right}"/>'
+        for point in [point for point in points if point is self._asked or point in self._past][-1:]:
+            yield f'<path class="line past{given}" d="M{LEFT} {y}H{point.x}"/>'
 
     def _waiting(self, points: list[Point]) -> list[list[int]]:
         """From where to where messages wait on a line. To its end where they have not been delivered."""
         until = {point.since: point.x for point in points if point.since}
         stretches: list[list[int]] = []
         for point in points:
-            end = until.get(point, self._layout.right)
+            end = until.get(point, self._right)
             if point.kind is Kind.WAIT and stretches and point.x <= stretches[-1][1]:
                 stretches[-1][1] = max(stretches[-1][1], end)
             elif point.kind is Kind.WAIT:
@@ -698,18 +777,16 @@ class Picture:
 
     def _arrow(self, delivery: Point) -> str:
         """From the cast to where the message arrived."""
-        cast, end = delivery.cast, delivery.since or delivery
-        x, y = cast.x, self._layout.y(cast.member)
-        across, down = end.x - x, self._layout.y(end.member) - y
-        far = math.hypot(across, down)
-        across, down = across / far, down / far
-        cut = far - RADIUS[end.kind] - 1.5
-        tip_x, tip_y = x + across * cut, y + down * cut
-        wings = [(tip_x - 6 * across + side * down * 2.6, tip_y - 6 * down - side * across * 2.6) for side in (1, -1)]
-        (one_x, one_y), (other_x, other_y) = wings
-        head = f"M{decimal(one_x)} {decimal(one_y)}L{decimal(tip_x)} {decimal(tip_y)}L{decimal(other_x)} {decimal(other_y)}"
-        state = self._class(delivery)
-        return f'<path class="arrow{state}" id="arrow-{delivery.name}-{delivery.member}" d="M{x} {y}L{decimal(tip_x)} {decimal(tip_y)}{head}"/>'
+        end = delivery.since or delivery
+        *lane, last = self._layout.routes[end]
+        across, down = last.to_x - last.x, last.to_y - last.y
+        across, down = across / math.hypot(across, down), down / math.hypot(across, down)
+        back = RADIUS[end.kind] + 1.5
+        tip = last.to_x - across * back, last.to_y - down * back
+        wings = [(tip[0] - 6 * across + side * down, tip[1] - 6 * down - side * across) for side in (2.6, -2.6)]
+        way = "".join(f"M{piece.x} {piece.y}L{piece.to_x} {piece.to_y}H{last.x}" for piece in lane) or f"M{last.x} {last.y}"
+        head = f"L{at(tip)}M{at(wings[0])}L{at(tip)}L{at(wings[1])}"
+        return f'<path class="arrow{self._class(delivery)}" id="arrow-{delivery.name}-{delivery.member}" d="{way}{head}"/>'
 
     def _point(self, point: Point) -> str:
         x, y, radius = point.x, self._layout.y(point.member), RADIUS[point.kind]
