@@ -462,7 +462,7 @@ RADIUS = {Kind.CAST: 5, Kind.DELIVERY: 3.5, Kind.WAIT: 4}
 WIDEST_RADIUS = 5
 NAME_SIZE, TIME_SIZE, EM = 10, 7.5, 0.62  # of the letters, and the width of one
 UP, TIME_DOWN = 14, 8  # how far a label goes above its line, and each row of a time below it
-FIELDS_IN_ROW = 8
+FIELDS_IN_ROW, NO_BREAK_SPACE = 8, "\u00a0"
 BESIDE, BETWEEN = 3, 7  # from a point to its label, and from there to the next
 LEFT, TOP, LEAST_FLIGHT, FLIGHT_FOR_ROW = 74, 30, 22, 6
 LANE, BEHIND_LANE, ROOM = 4, 9, 16  # how far lanes are apart, how far they end before the point, and steps of their length
@@ -575,7 +575,7 @@ class Layout:
             return []
         if len(point.time) <= 4:
             return [shown_time(point.time)]
-        fields = [(str(count) if count else "·").rjust(self._digits) for count in point.time]
+        fields = [(str(count) if count else "·").rjust(self._digits, NO_BREAK_SPACE) for count in point.time]
         between = "" if self._digits == 1 else " "
         return [between.join(fields[at : at + FIELDS_IN_ROW]) for at in range(0, len(fields), FIELDS_IN_ROW)]
 
@@ -687,7 +687,7 @@ DARK = {"ground": "#0d1117", "ink": "#dfe5ec", "line": "#444c56", "arrow": "#6b7
 FONT = "ui-monospace, 'SF Mono', Menlo, Consolas, 'DejaVu Sans Mono', monospace"
 SHAPES = f"""
 text {{ font-family: {FONT}; font-size: {NAME_SIZE}px; stroke-width: 3px; stroke-linejoin: round; paint-order: stroke; }}
-.time {{ font-size: {TIME_SIZE}px; white-space: pre; }}
+.time {{ font-size: {TIME_SIZE}px; }}
 .cast .label {{ text-anchor: end; }}
 path {{ fill: none; stroke-linejoin: round; stroke-width: 1.1; }}
 .waiting {{ stroke-width: 2.5; }}
@@ -726,8 +726,8 @@ def at(place: tuple[float, float]) -> str:
 class Picture:
     """The text of the SVG. Where a message is asked for, the events of its past are in the class `past`, and all others in `rest`."""
 
-    def __init__(self, run: Run, asked: Optional[Point]) -> None:
-        self._run, self._asked, self._layout = run, asked, laid_out(run)
+    def __init__(self, run: Run, layout: Layout, asked: Optional[Point]) -> None:
+        self._run, self._layout, self._asked = run, layout, asked
         self._past = past_of(asked) if asked else set()
         self._bottom = self._layout.y(run.group.size - 1) + self._layout.down + 38
         self._right = max(self._layout.right, 660 if asked else 460)
@@ -866,7 +866,7 @@ def main() -> int:
     try:
         run = histories_of(words_given.files)
         asked = asked_for(run, words_given.past) if words_given.past is not None else None
-        made = shiviz(run) if words_given.shiviz else Picture(run, asked).text()
+        made = shiviz(run) if words_given.shiviz else Picture(run, laid_out(run), asked).text()
         sys.stdout.buffer.write(made.encode())
         sys.stdout.buffer.flush()
     except (Fault, OSError) as fault:
