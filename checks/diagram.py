@@ -30,6 +30,8 @@ import diagram  # noqa: E402  (found there, not here: this file runs as __main__
 from jolunza import Member, Output, Refusal  # noqa: E402
 
 SVG = "{http://www.w3.org/2000/svg}"
+TRACE = STORED.with_suffix(".trace").read_bytes()
+JOURNAL = b"cbcast 1 group 7 size 3 window 4 member 1\n"
 
 
 class Event(NamedTuple):
@@ -159,11 +161,12 @@ class Drawn:
 
     def __init__(self, text: str) -> None:
         self.root = ElementTree.fromstring(text)
-        self.points = [group for group in self.root.iter(f"{SVG}g") if group.get("id", "legend") != "legend" and group.find(f"{SVG}circle") is not None]
+        self.points = [group for group in self.root.iter(f"{SVG}g") if "-" in group.get("id", "")]
         self.arrows = [path for path in self.root.iter(f"{SVG}path") if "arrow" in path.get("class").split()]
 
-    def of_kind(self, *kinds: str) -> list[ElementTree.Element]:
-        return [point for point in self.points if point.get("class").split()[0] in kinds]
+    def ids(self, *classes: str) -> list[str]:
+        """The points that are in one of these classes."""
+        return [point.get("id") for point in self.points if set(classes) & set(point.get("class").split())]
 
     def places(self) -> dict[str, tuple[float, float, float]]:
         """x, y and radius of each point."""
@@ -229,8 +232,15 @@ class Pictures(unittest.TestCase):
         for name, trace, events in all_groups():
             with self.subTest(name):
                 drawn = Drawn(picture(trace))
-                self.assertEqual(sorted(point.get("id") for point in drawn.of_kind("cast", "delivery")), sorted(event.id for line in events for event in line))
-                self.assertEqual(sorted(arrow.get("id") for arrow in drawn.arrows), sorted(f"arrow-{event.id[9:]}" for line in events for event in line if event.member != event.sender))
+                wanted = sorted(event.id for line in events for event in line)
+                self.assertEqual(sorted(drawn.ids("cast", "delivery")), wanted)
+
+    def test_each_delivery_and_each_message_that_waits_has_one_arrow(self) -> None:
+        for name, trace, _ in all_groups():
+            with self.subTest(name):
+                drawn = Drawn(picture(trace))
+                wanted = {f"arrow-{point.partition('-')[2]}" for point in drawn.ids("delivery", "wait")}
+                self.assertEqual(sorted(arrow.get("id") for arrow in drawn.arrows), sorted(wanted))
 
     def test_each_has_its_name_and_its_members_time(self) -> None:
         for name, trace, events in all_groups():
@@ -272,7 +282,7 @@ class Pictures(unittest.TestCase):
     def test_a_message_waits_from_its_arrival_to_its_delivery(self) -> None:
         drawn = Drawn(STORED.with_suffix(".svg").read_text())
         places = drawn.places()
-        self.assertEqual([point.get("id") for point in drawn.of_kind("wait")], ["wait-1.1-2"])
+        self.assertEqual(drawn.ids("wait"), ["wait-1.1-2"])
         (wait,) = (path for path in drawn.root.iter(f"{SVG}path") if path.get("class") == "waiting")
         (from_x, y, _), (to_x, _, _) = places["wait-1.1-2"], places["delivery-1.1-2"]
         self.assertEqual(wait.get("d"), f"M{from_x:.0f} {y:.0f}H{to_x:.0f}")
@@ -303,9 +313,15 @@ class Pictures(unittest.TestCase):
             drawn = Drawn(picture(group.trace))
             for arrow in drawn.arrows:
                 with self.subTest(f"{size} members", arrow=arrow.get("id")):
-                    cast = pieces(arrow)[0][:2]
-                    passed = [point for point, at in drawn.places().items() if at[:2] != cast and any(passes(piece, at) for piece in pieces(arrow))]
-                    self.assertEqual(passed, [])
+                    way, others = pieces(arrow), {point: at for point, at in drawn.places().items() if at[:2] != pieces(arrow)[0][:2]}
+                    self.assertEqual([point for point, at in others.items() if any(passes(piece, at) for piece in way)], [])
+
+    def test_no_arrow_of_three_members_passes_a_label(self) -> None:
+        for trace in (TRACE, SIZES[3].trace):
+            drawn = Drawn(picture(trace))
+            for arrow in drawn.arrows:
+                passed = [point for point, box in drawn.boxes() if any(cuts(piece, box) for piece in pieces(arrow))]
+                self.assertEqual(passed, [], arrow.get("id"))
 
 
 def meet(one: tuple[float, ...], other: tuple[float, ...]) -> bool:
@@ -321,6 +337,18 @@ def passes(piece: tuple[float, float, float, float], at: tuple[float, float, flo
     return math.hypot(at[0] - nearest[0], at[1] - nearest[1]) < at[2]
 
 
+def cuts(piece: tuple[float, float, float, float], box: tuple[float, float, float, float]) -> bool:
+    x, y, to_x, to_y = piece
+    part = [0.0, 1.0]
+    for start, along, least, most in ((x, to_x - x, box[0], box[2]), (y, to_y - y, box[1], box[3])):
+        if along == 0 and not least < start < most:
+            return False
+        if along:
+            one, other = sorted(((least - start) / along, (most - start) / along))
+            part = [max(part[0], one), min(part[1], other)]
+    return part[0] < part[1]
+
+
 class Pasts(unittest.TestCase):
     def test_the_past_is_what_happened_before_and_nothing_else(self) -> None:
         for name, trace, events in all_groups():
@@ -329,12 +357,11 @@ class Pasts(unittest.TestCase):
             for cast in casts[:: max(1, len(casts) // 6)]:
                 with self.subTest(name, cast=cast.id):
                     drawn = Drawn(picture(trace, past=f"{cast.sender}.{cast.number}"))
-                    coloured = [point.get("id") for point in drawn.points if "past" in point.get("class").split()]
-                    self.assertEqual(sorted(coloured), sorted(event.id for event in before[cast]))
-                    asked = [point.get("id") for point in drawn.points if "asked" in point.get("class").split()]
-                    self.assertEqual(asked, [cast.id])
+                    self.assertEqual(sorted(drawn.ids("past")), sorted(event.id for event in before[cast]))
+                    self.assertEqual(drawn.ids("asked"), [cast.id])
                     arrows = [arrow.get("id") for arrow in drawn.arrows if "past" in arrow.get("class").split()]
-                    self.assertEqual(sorted(arrows), sorted(f"arrow-{event.id[9:]}" for event in before[cast] if event.member != event.sender))
+                    delivered = [event for event in before[cast] if event.member != event.sender]
+                    self.assertEqual(sorted(arrows), sorted(f"arrow-{event.sender}.{event.number}-{event.member}" for event in delivered))
 
     def test_a_message_that_waits_is_in_no_past(self) -> None:
         """Member 2 has received 1.1 and cannot deliver it when it casts 2.1."""
@@ -345,8 +372,17 @@ class Pasts(unittest.TestCase):
         group.call(2, "receive", answer.bytes)
         group.call(2, "cast", b"hello")
         drawn = Drawn(picture(group.trace, past="2.1"))
-        self.assertEqual([point.get("id") for point in drawn.of_kind("wait")], ["wait-1.1-2"])
-        self.assertEqual([point.get("id") for point in drawn.points if "past" in point.get("class").split()], [])
+        self.assertEqual(drawn.ids("wait"), ["wait-1.1-2"])
+        self.assertEqual(drawn.ids("past"), [])
+
+    def test_where_an_earlier_cast_is_not_there_the_past_is_not_known(self) -> None:
+        """A journal of member 1 has the second cast of member 0 alone."""
+        journal = JOURNAL + b"arrive 11070002000162 -\n"
+        with self.assertRaisesRegex(diagram.Fault, "file0:2: what happened before 0.2 is not known: give the history of member 0"):
+            picture(journal, past="0.2")
+        with self.assertRaisesRegex(diagram.Fault, "file0:2: what happened before 0.2 is not known"):
+            diagram.shiviz(laid_out(journal)[0])
+        self.assertEqual(Drawn(picture(journal)).ids("cast", "wait"), ["cast-0.2-0", "wait-0.2-1"])
 
 
 class ShiViz(unittest.TestCase):
@@ -393,8 +429,8 @@ class Files(unittest.TestCase):
                     drawn = Drawn(picture(journal))
                     mine = {event.id for event in group.events[me]}
                     theirs = {Event(event.sender, *event[1:]).id for event in group.events[me]}
-                    there = {point.get("id") for point in drawn.of_kind("cast", "delivery")}
-                    waiting = {f"cast-{point.get('id').split('-')[1]}-{point.get('id').split('-')[1].split('.')[0]}" for point in drawn.of_kind("wait")}
+                    there = set(drawn.ids("cast", "delivery"))
+                    waiting = {re.sub(r"wait-(\d+)(\.\d+)-\d+", r"cast-\1\2-\1", point) for point in drawn.ids("wait")}
                     self.assertEqual(there, mine | theirs | waiting)
                     places, before = drawn.places(), happened_before(group.events)
                     known = [event for event in before if event.id in there]
@@ -410,8 +446,6 @@ class Files(unittest.TestCase):
         self.assertRegex(said.getvalue(), r"file0:\d+: note: the line behind this one is torn, and is left out\n")
 
 
-TRACE = STORED.with_suffix(".trace").read_bytes()
-JOURNAL = b"cbcast 1 group 7 size 3 window 4 member 1\n"
 # what is exchanged in the stored trace, by what, and what is said
 FAULTS = [
     (b"cbcast 1", b"cbcast 2", "file0:1: the line is not the head"),
@@ -437,7 +471,7 @@ FAULTS = [
     (b"cast 1107000100026869", b"cast 1107030100026869", "file0:3: the frame is refused: BadMember"),
     (b"cast 1107000100026869", b"cast 1107010100026869", "file0:3: the next cast of member 0 is 0.1"),
     (b"cast 1107000100026869", b"cast 1107000200026869", "file0:3: the next cast of member 0 is 0.1"),
-    (b"cast 1107010101000102796f", b"cast 11070101010002" b"02796f", "file0:6: the time of 1.1 in its frame is not what member 1 had delivered"),
+    (b"cast 1107010101000102796f", b"cast 1107010101000202796f", "file0:6: the time of 1.1 in its frame is not what member 1 had delivered"),
     (b"member 0 entries 1\ncast 1107000100026869\n", b"member 0 entries 0\n", "file0:4: 0.1 arrives, which member 0 does not cast in file0"),
     (b"cast 1107000100026869", b"tick 1107000100026869", "file0:3: the frame of a tick is no status"),
     (b"arrive 1107000100026869 0.1\n", b"arrive 13070002010000 0.1\n", "file0:5: the frame is refused: it is no cast, no burst and no status"),
@@ -488,7 +522,9 @@ class Faults(unittest.TestCase):
     def test_the_program_ends_with_2_and_prints_nothing(self) -> None:
         with tempfile.TemporaryDirectory() as folder:
             (cut,) = written(folder, TRACE[:-4])
-            for words in ([cut], [f"{folder}/none"], [], [cut, "--none"], ["--past", "1.9", str(STORED) + ".trace"], ["--shiviz", "--past", "1.1", str(STORED) + ".trace"]):
+            stored = str(STORED) + ".trace"
+            wrong_words = ([], [stored, "--none"], ["--past", "1.9", stored], ["--shiviz", "--past", "1.1", stored])
+            for words in ([cut], [f"{folder}/none"], *wrong_words):
                 ran = self.ran(*words)
                 self.assertEqual((ran.returncode, ran.stdout), (2, b""), words)
                 self.assertRegex(ran.stderr.decode(), "diagram.py: ", words)

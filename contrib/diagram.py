@@ -6,8 +6,8 @@
     diagram.py --shiviz FILE..      the casts and deliveries as a log for ShiViz
 
 A FILE is a trace, a part of one, or a journal; several are joined, and `-` is standard input. Python 3.9, the standard library alone.
-What happened before what follows from the order of each member's entries and from which cast each delivery is of: vector times are
-shown, and compared with what was delivered, and nothing is drawn by them but casts of members whose history is not given.
+What happened before what follows from the order of each member's entries, and from which cast each delivery is of. Vector times are
+shown and compared with what was delivered. They only say what happened before a cast of a member whose history is not given.
 """
 
 from __future__ import annotations
@@ -225,7 +225,8 @@ class Frame:
         sender = self.wanted("BadMember", 0, group.size - 1)
         first = self.wanted("ZeroNumber", 1, LAST_NUMBER)
         growth = self.growth(sender, group)
-        count = 1 if kind == 0x11 else self.wanted("EmptyBurst or BurstTooLong", 1, min(MOST_MESSAGES, LAST_NUMBER - first + 1))
+        most = min(MOST_MESSAGES, LAST_NUMBER - first + 1)
+        count = 1 if kind == 0x11 else self.wanted("EmptyBurst or BurstTooLong", 1, most)
         named = enumerate(self.payloads(count))
         return [Message(Name(sender, first + place), () if place else growth, payload) for place, payload in named]
 
@@ -285,8 +286,9 @@ class Line:
         for message in Frame(entry.place, entry.frame).messages(self.group) or [None]:
             grown = tuple((k, n - self._at_cast[k]) for k, n in enumerate(self._clock) if n > self._at_cast[k])
             self._clock[self.me] += 1
-            if message is None or message.name != (self.me, self._clock[self.me]):
-                raise Fault(f"{entry.place}: the next cast of member {self.me} is {self.me}.{self._clock[self.me]}, and this is another frame")
+            wanted = Name(self.me, self._clock[self.me])
+            if message is None or message.name != wanted:
+                raise Fault(f"{entry.place}: the next cast of member {self.me} is {wanted}, and this is another frame")
             if message.growth != grown:
                 raise Fault(f"{entry.place}: the time of {message.name} in its frame is not what member {self.me} had delivered")
             self._at_cast = list(self._clock)
@@ -342,13 +344,15 @@ class Run:
             for member, more in found[name].message.growth if is_next else ():
                 clock[member] += more
             clock[sender] += is_next
-            casts.append(Point(Kind.CAST, sender, found[name].message, tuple(clock) if is_next else None, found[name].place))
+            time = tuple(clock) if is_next else None
+            casts.append(Point(Kind.CAST, sender, found[name].message, time, found[name].place))
         return casts
 
     def _cast_of(self, point: Point) -> Point:
         cast = self.casts.get(point.name)
         if cast is None:
-            raise Fault(f"{point.place}: {point.name} arrives, which member {point.name.sender} does not cast in {self._file(point.name.sender)}")
+            file = self._file(point.name.sender)
+            raise Fault(f"{point.place}: {point.name} arrives, which member {point.name.sender} does not cast in {file}")
         if cast.message != point.message:
             raise Fault(f"{point.place}: {point.name} arrives with other bytes than at {cast.place}")
         return cast
@@ -381,6 +385,13 @@ class Run:
         return known
 
 
+def known_past(point: Point) -> Point:
+    """The point, whose past is what its causes say."""
+    if point.time is None:
+        raise Fault(f"{point.place}: what happened before {point.name} is not known: give the history of member {point.member}")
+    return point
+
+
 def past_of(point: Point) -> set[Point]:
     """The events that happened before it."""
     past: set[Point] = set()
@@ -394,7 +405,7 @@ def past_of(point: Point) -> set[Point]:
 
 
 def walk(points: list[Point], key: Callable[[Point], int]) -> Iterator[Point]:
-    """Each point behind all those that it stands behind; of several that may come, the one of the least key, and then of the least member."""
+    """Each point after all those that it stands behind. Of several that may come the one of the least key comes, and then the first."""
     waits = {point: len(point.behind) for point in points}
     followers = defaultdict(list)
     for place, point in enumerate(points):
@@ -439,12 +450,13 @@ EXPRESSION = r"(?<host>\S*) (?<clock>{.*})\n(?<event>.*)"
 
 
 def shiviz(run: Run) -> str:
-    """The expression that reads the log, an empty line, and two lines for each event. A clock counts the casts and deliveries of each member that
-    happened before the event, and the event itself."""
+    """The expression that reads the log, an empty line, and two lines for each event. A clock counts, for each member, the casts and
+    deliveries that happened before the event, and the event itself."""
     clocks: dict[Point, dict[int, int]] = {}
     told = [EXPRESSION, ""]
     for point in walk(run.points, key=lambda _: 0):
         if point.is_event:
+            known_past(point)
             clock: dict[int, int] = defaultdict(int)
             for cause in point.causes:
                 for member, count in clocks[cause].items():
@@ -488,7 +500,8 @@ class Stretches:
 
     def meeting(self, stretch: Stretch) -> int:
         """How many meet this one; where two meet in several cells, each counts."""
-        return sum(left < stretch[1] and stretch[0] < right for cell in self._cells_of(stretch) for left, right in self._cells.get(cell, ()))
+        near = [other for cell in self._cells_of(stretch) for other in self._cells.get(cell, ())]
+        return sum(left < stretch[1] and stretch[0] < right for left, right in near)
 
 
 class Piece(NamedTuple):
@@ -500,7 +513,8 @@ class Piece(NamedTuple):
     to_y: float
 
     def at(self, y: float, up: float, down: float, clear: float) -> Stretch:
-        """Between which x it is less than that above or below this y; on the rows where it begins and ends without so much behind its end."""
+        """Between which x it is less than that above or below this y. On the rows where it begins and ends what is near its own points
+        is left out."""
         slope, (top, bottom) = (self.to_x - self.x) / (self.to_y - self.y), sorted((self.y, self.to_y))
         if bottom <= y - up or y + down <= top:
             return None
@@ -554,6 +568,7 @@ class Layout:
         self._rows = [Row() for _ in run.lines]
         self._digits = max([len(str(count)) for point in run.points for count in point.time or ()] or [1])
         rows_of_time = 1 if run.group.size <= 4 else -(-run.group.size // FIELDS_IN_ROW)
+        self._fields_in_row = -(-run.group.size // rows_of_time)
         self.down = 6 + TIME_DOWN * rows_of_time
         self.pitch = UP + self.down + 2 * LANE * (lanes + 1)
         # few members leave room for straight arrows that pass no label
@@ -570,14 +585,15 @@ class Layout:
         return TOP + member * self.pitch
 
     def time_rows(self, point: Point) -> list[str]:
-        """A time of up to four members as everywhere else; of more members eight in a row, and a middle dot for 0."""
+        """A time of up to four members as everywhere else; of more members at most eight in a row, and a middle dot for 0."""
         if point.time is None or not point.is_event:
             return []
         if len(point.time) <= 4:
             return [shown_time(point.time)]
         fields = [(str(count) if count else "·").rjust(self._digits, NO_BREAK_SPACE) for count in point.time]
-        between = "" if self._digits == 1 else " "
-        return [between.join(fields[at : at + FIELDS_IN_ROW]) for at in range(0, len(fields), FIELDS_IN_ROW)]
+        between, step = "" if self._digits == 1 else " ", self._fields_in_row
+        rows = [between.join(fields[at : at + step]) for at in range(0, len(fields), step)]
+        return [row.ljust(len(rows[0]), NO_BREAK_SPACE) for row in rows]
 
     def _ends(self, point: Point, x: int) -> tuple[float, float]:
         """From where to where the point and its label go. No arrow comes to a cast, and none leaves a delivery: the label stands there."""
@@ -719,7 +735,7 @@ def decimal(value: float) -> str:
     return f"{value:.1f}".removesuffix(".0")
 
 
-def at(place: tuple[float, float]) -> str:
+def spot(place: tuple[float, float]) -> str:
     return f"{decimal(place[0])} {decimal(place[1])}"
 
 
@@ -729,6 +745,7 @@ class Picture:
     def __init__(self, run: Run, layout: Layout, asked: Optional[Point]) -> None:
         self._run, self._layout, self._asked = run, layout, asked
         self._past = past_of(asked) if asked else set()
+        self._deliveries = {point.since: point for point in run.points if point.since}
         self._bottom = self._layout.y(run.group.size - 1) + self._layout.down + 38
         self._right = max(self._layout.right, 660 if asked else 460)
 
@@ -738,13 +755,14 @@ class Picture:
         size = f'width="{width}" height="{height}" viewBox="0 0 {width} {height}"'
         dark = "".join(f"  {line}\n" for line in colours(DARK).strip().splitlines())
         style = f"{SHAPES}{colours(LIGHT).lstrip()}@media (prefers-color-scheme: dark) {{\n{dark}}}\n"
-        about = f"What {group.size} members of group {group.number} cast and delivered" + (f", and the past of {self._asked.name}" if self._asked else "")
+        past = f", and the past of {self._asked.name}" if self._asked else ""
+        about = f"What {group.size} members of group {group.number} cast and delivered{past}"
         parts = [f'<svg xmlns="http://www.w3.org/2000/svg" {size} role="img">', f"<title>{about}</title>", f"<style>{style}</style>"]
         parts.append(f'<rect class="ground" width="{width}" height="{height}" rx="6"/>')
         for member, points in enumerate(self._run.lines):
             parts += self._line(member, points)
-        deliveries = [point for point in self._run.points if point.kind is Kind.DELIVERY]
-        parts += [self._arrow(point) for point in sorted(deliveries, key=lambda point: point in self._past)]
+        landings = [point for point in self._run.points if flight_of(point)]
+        parts += [self._arrow(point) for point in sorted(landings, key=lambda point: self._delivery_of(point) in self._past)]
         parts += [self._point(point) for point in self._run.points]
         return "\n".join([*parts, self._legend(), "</svg>", ""])
 
@@ -765,19 +783,21 @@ class Picture:
 
     def _waiting(self, points: list[Point]) -> list[list[int]]:
         """From where to where messages wait on a line. To its end where they have not been delivered."""
-        until = {point.since: point.x for point in points if point.since}
         stretches: list[list[int]] = []
         for point in points:
-            end = until.get(point, self._right)
+            end = self._deliveries[point].x if point in self._deliveries else self._right
             if point.kind is Kind.WAIT and stretches and point.x <= stretches[-1][1]:
                 stretches[-1][1] = max(stretches[-1][1], end)
             elif point.kind is Kind.WAIT:
                 stretches.append([point.x, end])
         return stretches
 
-    def _arrow(self, delivery: Point) -> str:
-        """From the cast to where the message arrived."""
-        end = delivery.since or delivery
+    def _delivery_of(self, point: Point) -> Point:
+        """Where a message that waits is delivered; the point itself where it does not wait, or waits to the end."""
+        return self._deliveries.get(point, point)
+
+    def _arrow(self, end: Point) -> str:
+        """From the cast to where the message arrived. It is in the past if the delivery is."""
         *lane, last = self._layout.routes[end]
         across, down = last.to_x - last.x, last.to_y - last.y
         across, down = across / math.hypot(across, down), down / math.hypot(across, down)
@@ -785,8 +805,9 @@ class Picture:
         tip = last.to_x - across * back, last.to_y - down * back
         wings = [(tip[0] - 6 * across + side * down, tip[1] - 6 * down - side * across) for side in (2.6, -2.6)]
         way = "".join(f"M{piece.x} {piece.y}L{piece.to_x} {piece.to_y}H{last.x}" for piece in lane) or f"M{last.x} {last.y}"
-        head = f"L{at(tip)}M{at(wings[0])}L{at(tip)}L{at(wings[1])}"
-        return f'<path class="arrow{self._class(delivery)}" id="arrow-{delivery.name}-{delivery.member}" d="{way}{head}"/>'
+        head = f"L{spot(tip)}M{spot(wings[0])}L{spot(tip)}L{spot(wings[1])}"
+        state = self._class(self._delivery_of(end))
+        return f'<path class="arrow{state}" id="arrow-{end.name}-{end.member}" d="{way}{head}"/>'
 
     def _point(self, point: Point) -> str:
         x, y, radius = point.x, self._layout.y(point.member), RADIUS[point.kind]
@@ -805,7 +826,8 @@ class Picture:
             rows += [("asked", Kind.CAST, str(self._asked.name)), ("past", Kind.DELIVERY, "happened before it")]
         parts, x, y = [], LEFT + 6, self._bottom - 16
         for style, kind, said in rows:
-            parts.append(f'<g class="{style}"><circle cx="{x}" cy="{y}" r="{RADIUS[kind]}"/><text x="{x + 10}" y="{y + 3.5}">{said}</text></g>')
+            circle, text = f'<circle cx="{x}" cy="{y}" r="{RADIUS[kind]}"/>', f'<text x="{x + 10}" y="{y + 3.5}">{said}</text>'
+            parts.append(f'<g class="{style}">{circle}{text}</g>')
             x += 34 + round(len(said) * NAME_SIZE * EM)
         return f'<g id="legend">{"".join(parts)}</g>'
 
@@ -849,7 +871,7 @@ def asked_for(run: Run, word: str) -> Point:
         raise Fault(f"--past {word}: a message is named by its sender and its number, as 1.3")
     if name not in run.casts:
         raise Fault(f"--past {word}: no such message was cast")
-    return run.casts[name]
+    return known_past(run.casts[name])
 
 
 def arguments() -> argparse.Namespace:
@@ -862,11 +884,11 @@ def arguments() -> argparse.Namespace:
 
 
 def main() -> int:
-    words_given = arguments()
+    given = arguments()
     try:
-        run = histories_of(words_given.files)
-        asked = asked_for(run, words_given.past) if words_given.past is not None else None
-        made = shiviz(run) if words_given.shiviz else Picture(run, laid_out(run), asked).text()
+        run = histories_of(given.files)
+        asked = asked_for(run, given.past) if given.past is not None else None
+        made = shiviz(run) if given.shiviz else Picture(run, laid_out(run), asked).text()
         sys.stdout.buffer.write(made.encode())
         sys.stdout.buffer.flush()
     except (Fault, OSError) as fault:
