@@ -280,7 +280,7 @@ class Pictures(unittest.TestCase):
                     self.assertAlmostEqual(math.hypot(end[0] - to_x, end[1] - to_y), end[2] + 1.5, delta=0.2)
 
     def test_a_message_waits_from_its_arrival_to_its_delivery(self) -> None:
-        drawn = Drawn(STORED.with_suffix(".svg").read_text())
+        drawn = Drawn(picture(TRACE))
         places = drawn.places()
         self.assertEqual(drawn.ids("wait"), ["wait-1.1-2"])
         (wait,) = (path for path in drawn.root.iter(f"{SVG}path") if path.get("class") == "waiting")

@@ -567,7 +567,8 @@ class Layout:
     def __init__(self, run: Run, lanes: int) -> None:
         self._rows = [Row() for _ in run.lines]
         self._digits = max([len(str(count)) for point in run.points for count in point.time or ()] or [1])
-        rows_of_time = 1 if run.group.size <= 4 else -(-run.group.size // FIELDS_IN_ROW)
+        most_in_row = FIELDS_IN_ROW if self._digits == 1 else FIELDS_IN_ROW // 2
+        rows_of_time = 1 if run.group.size <= 4 else -(-run.group.size // most_in_row)
         self._fields_in_row = -(-run.group.size // rows_of_time)
         self.down = 6 + TIME_DOWN * rows_of_time
         self.pitch = UP + self.down + 2 * LANE * (lanes + 1)
