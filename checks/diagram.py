@@ -12,6 +12,7 @@ import functools
 import io
 import json
 import math
+import os
 import pathlib
 import random
 import re
@@ -529,10 +530,14 @@ class Faults(unittest.TestCase):
                 self.assertEqual((ran.returncode, ran.stdout), (2, b""), words)
                 self.assertRegex(ran.stderr.decode(), "diagram.py: ", words)
 
-    def test_a_picture_that_is_not_written_is_a_fault(self) -> None:
-        with open("/dev/full", "wb") as full:
-            ran = subprocess.run([sys.executable, "-B", PROGRAM, str(STORED) + ".trace"], stdout=full, stderr=subprocess.PIPE)
-        self.assertEqual((ran.returncode, ran.stderr.decode()), (2, "diagram.py: [Errno 28] No space left on device\n"))
+    def test_what_is_not_written_is_a_fault(self) -> None:
+        """A picture is longer than what Python keeps back before it writes, and a log shorter."""
+        buffered = {name: value for name, value in os.environ.items() if name != "PYTHONUNBUFFERED"}
+        for words in ([], ["--shiviz"]):
+            with self.subTest(words), open("/dev/full", "wb") as full:
+                words = [sys.executable, "-B", PROGRAM, *words, f"{STORED}.trace"]
+                ran = subprocess.run(words, stdout=full, stderr=subprocess.PIPE, env=buffered)
+                self.assertEqual((ran.returncode, ran.stderr), (2, b"diagram.py: [Errno 28] No space left on device\n"))
 
     def test_standard_input_is_a_file(self) -> None:
         self.assertEqual(self.ran("-", input=TRACE).stdout, STORED.with_suffix(".svg").read_bytes())
