@@ -890,8 +890,8 @@ def main() -> int:
         run = histories_of(given.files)
         asked = asked_for(run, given.past) if given.past is not None else None
         made = shiviz(run) if given.shiviz else Picture(run, laid_out(run), asked).text()
-        sys.stdout.buffer.write(made.encode())
-        sys.stdout.buffer.flush()
+        with open(sys.stdout.fileno(), "wb", closefd=False) as out:  # sys.stdout would try once more at the end, and end with 120
+            out.write(made.encode())
     except (Fault, OSError) as fault:
         print(f"diagram.py: {fault}", file=sys.stderr)
         return 2
