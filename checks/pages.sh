@@ -12,7 +12,7 @@
 # In the pages a block ```sh is an example, run by bash at the top of a scratch copy. It has to end with status 0, or N after `sh status=N`.
 # Where the next block is ```text, that is what it prints: `..` stands there for any text, and alone on a line for any lines. One after
 # `sh long` is not run. A block ```rust PATH#MARK shows the lines of PATH between `// MARK: begin` and `// MARK: end`; without a mark
-# it shows some lines of PATH. So do ```c and, with `#` for `//`, ```python. In the pages of
+# it shows some lines of PATH. So do ```c, ```text and, with `#` for `//`, ```python. In the pages of
 # bindings/ a block without PATH is left to the tests there.
 #   checks/pages.sh          all of it; an example takes a minute or two. JOBS=4 runs four at a time; two if not said
 #   checks/pages.sh text     all but the examples, in some seconds
@@ -173,7 +173,7 @@ def stands_in(path, body):
 
 def look_at_code(page, text):
     for number, words, body in blocks(text):
-        if words[:1] not in (["rust"], ["c"], ["python"]) or (page.startswith("bindings/") and len(words) == 1):
+        if words[:1] not in (["rust"], ["c"], ["python"], ["text"]) or words == ["text"] or (page.startswith("bindings/") and len(words) == 1):
             continue
         path, _, mark = (words + [""])[1].partition("#")
         if not os.path.isfile(path):

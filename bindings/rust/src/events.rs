@@ -44,6 +44,33 @@ impl<'a> Iterator for Events<'a> {
 
 impl ExactSizeIterator for Events<'_> {}
 
+/// The events of several calls, in their order.
+#[derive(Debug)]
+pub(crate) struct EventList {
+    heads: Vec<sys::jolunza_event_head>,
+    payloads: Vec<u8>,
+    times: Vec<u32>,
+    size: usize,
+}
+
+impl EventList {
+    /// Of a group of this size.
+    pub fn new(size: usize) -> EventList {
+        EventList { heads: Vec::new(), payloads: Vec::new(), times: Vec::new(), size }
+    }
+
+    pub fn add(&mut self, events: Events<'_>) {
+        let length = events.heads.clone().map(|head| head.length).sum();
+        self.payloads.extend_from_slice(&events.payloads[..length]);
+        self.times.extend_from_slice(&events.times[..events.heads.len() * self.size]);
+        self.heads.extend(events.heads);
+    }
+
+    pub fn all(&self) -> Events<'_> {
+        Events { heads: self.heads.iter(), payloads: &self.payloads, times: &self.times, size: self.size }
+    }
+}
+
 /// The place for copied events. It grows to the need of the longest list so far, and stays.
 pub(crate) struct EventBuffer {
     heads: Vec<sys::jolunza_event_head>,

@@ -103,6 +103,7 @@ mod output;
 mod refusal;
 mod resuming;
 pub mod sys;
+mod turn;
 
 pub use entries::Entry;
 pub use events::{Event, Events};
@@ -112,6 +113,7 @@ pub use member::{Awaited, Counts, Delayed, Member, Name, Settings};
 pub use output::Output;
 pub use refusal::Refusal;
 pub use resuming::{ResumeFault, Resumed};
+pub use turn::{Call, Turn};
 
 /// The most bytes of a payload, and of all payloads of a burst.
 pub const LONGEST_PAYLOAD: usize = sys::JOLUNZA_LONGEST_PAYLOAD;
