@@ -8,6 +8,9 @@ pub mod Comparing
 pub mod Stamps
 pub mod WayBack
 pub mod Extending
+pub mod Parts
+pub mod Following
+pub mod Newcomers
 pub mod SmallerSums
 pub mod OneMessage
 pub mod GroupLists
