@@ -174,11 +174,7 @@ impl<M: Speaker> Run<M> {
         if self.plan.burst == 1 {
             return member.cast(&self.payload);
         }
-        let payloads = [self.payload.as_slice(); MOST_MESSAGES];
-        match payloads.get(..count) {
-            Some(some) => member.cast_burst(some),
-            None => Ok(None),
-        }
+        burst_of(member, &self.payload, count)
     }
 
     fn ticks(&mut self) -> Result<(), NoMemory> {
@@ -191,5 +187,19 @@ impl<M: Speaker> Run<M> {
             }
         }
         Ok(())
+    }
+}
+
+/// The frame of a burst of this payload, that many times. Apart, since the list of payloads is set to zero where the function begins.
+#[inline(never)]
+fn burst_of<M: Speaker>(
+    member: &mut M,
+    payload: &[u8],
+    count: usize,
+) -> Result<Option<Bytes>, NoMemory> {
+    let payloads = [payload; MOST_MESSAGES];
+    match payloads.get(..count) {
+        Some(some) => member.cast_burst(some),
+        None => Ok(None),
     }
 }

@@ -262,6 +262,7 @@ impl Expander {
     }
 
     /// Takes the sender's next cast, whose time was looked at: it is as if it were expanded.
+    #[inline(always)]
     pub fn take(&mut self, cast: &Cast, time: &VectorTime)
         requires next { IsNext self.old (cast_fields cast.now) }
         requires grown { IsGrown (time_of self.old cast.now.sender) (cast_fields cast.now) time.now }

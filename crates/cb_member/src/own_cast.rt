@@ -78,6 +78,7 @@ impl State {
     }
 
     /// The next own cast but for its payload, which is copied once, into the frame.
+    #[inline(always)]
     pub fn next_cast(&self) -> Result<Cast, NoMemory>
         requires state { IsState self.now }
         requires room { 0 < room_of self.now.sending.window }

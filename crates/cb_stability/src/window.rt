@@ -77,6 +77,7 @@ impl SentWindow {
     /// Keeps a frame under the next `count` numbers: the first number put is 1. All other frames stay.
     ///
     /// There must be `room` for them.
+    #[inline(always)]
     pub fn put(&mut self, frame: Bytes, count: u32)
         requires some { 1 ≤ count }
         requires room { count ≤ room_of self.old }
