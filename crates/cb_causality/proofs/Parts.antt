@@ -40,7 +40,7 @@ module _ {X : Type 0} (test : X → Bool) where
 
   -- it is that element
   pub kept_stood : (xs : List X) (i : ℕ) (y : X) → slice_get (filter test xs) i ≡ Some y → slice_get xs (index_in_whole xs i) ≡ Some y
-  unfolding index_in_whole, behind_first
+  unfolding index_in_whole behind_first
   kept_stood [] i y at = absurd (cc)
   kept_stood (x ∷ xs) zero y at =
       elim (cases_Bool (test x)) [
@@ -55,7 +55,7 @@ module _ {X : Type 0} (test : X → Bool) where
 
   -- these indexes rise
   pub kept_rise : (xs : List X) (i j : ℕ) → i < j → j < length (filter test xs) → index_in_whole xs i < index_in_whole xs j
-  unfolding index_in_whole, behind_first
+  unfolding index_in_whole behind_first
   kept_rise [] i j less in_list = less
   kept_rise (x ∷ xs) i zero less in_list = absurd (omega arith)
   kept_rise (x ∷ xs) zero (suc j) less in_list =
@@ -79,7 +79,7 @@ module _ {X : Type 0} (test : X → Bool) where
   -- and what is kept of a list stands among what is kept
   pub kept_stands : (xs : List X) (i : ℕ) (y : X) → slice_get xs i ≡ Some y → test y ≡ true
       → (j : ℕ) × (slice_get (filter test xs) j ≡ Some y) × (index_in_whole xs j ≡ i)
-  unfolding index_in_whole, behind_first
+  unfolding index_in_whole behind_first
   kept_stands [] i y at passes = absurd (cc)
   kept_stands (x ∷ xs) zero y at passes =
       let one : x ≡ y = cc in
