@@ -49,7 +49,7 @@ person_of_number : (persons : List ℕ) (p : ℕ) → number_in persons p < leng
 person_of_number persons p inside = eqb-true (person_of persons (number_in persons p)) p (passes_at_first (λ q. eqb q p) persons 0 inside)
 
 -- who has no event in a run is no member of it, and who has one is
-of_member : (size : ℕ) (lists : Lists) → Run size lists → (j a : ℕ) (e : CausalEvent) → slice_get (lists j) a ≡ Some e → j < size
+pub of_member : (size : ℕ) (lists : Lists) → Run size lists → (j a : ℕ) (e : CausalEvent) → slice_get (lists j) a ≡ Some e → j < size
 of_member size lists run j a (Cast m payload) at =
     let sound : IsSound lists = (run_regular size lists run).sound in
     let own : m.sender ≡ j = sound.casters (record { member = j; index = a }) m (record { payload = payload; stands = at }) in
@@ -72,7 +72,7 @@ of_member size lists run j a (Deliver m payload) at = delivers_inside size lists
         ]
 
 -- nobody has a message that was not cast
-had_is_cast : (lists : Lists) → IsSound lists → (j : ℕ) (m : Name) → Has (lists j) m → IsCast lists m
+pub had_is_cast : (lists : Lists) → IsSound lists → (j : ℕ) (m : Name) → Has (lists j) m → IsCast lists m
 had_is_cast lists sound j m h = by_event h.event h.stands h.named
   where
     by_event : (e : CausalEvent) → slice_get (lists j) h.index ≡ Some e → name_of e ≡ m → IsCast lists m
@@ -83,7 +83,7 @@ had_is_cast lists sound j m h = by_event h.event h.stands h.named
         (record { member = x.sender; index = index }, subst (λ (y : Name). IsCastAt lists (record { member = x.sender; index = index }) y) named c)
 
 -- and no number is beyond what its sender has cast
-number_is_cast : (lists : Lists) → IsSound lists → (m : Name) → IsCast lists m → m.number ≤ casts_of (lists m.sender)
+pub number_is_cast : (lists : Lists) → IsSound lists → (m : Name) → IsCast lists m → m.number ≤ casts_of (lists m.sender)
 number_is_cast lists sound m (place, c) =
     let own : m.sender ≡ place.member = sound.casters place m c in
     let at_own : slice_get (lists m.sender) place.index ≡ Some (Cast m c.payload) =
@@ -228,7 +228,7 @@ module _ (size : ℕ) (earlier : Lists) (persons : List ℕ) (run : Run size ear
         let lengths : length (earlier p.member) ≡ length (earlier q.member) = ap (λ (k : ℕ). length (earlier k)) same in
         let all : length (put_behind persons earlier next q.member) ≡ length (earlier q.member) + length (next (number_in persons q.member)) =
         length-append (earlier q.member) (map (event_behind persons earlier) (next (number_in persons q.member)))
-        ∙ ap (λ (n : ℕ). length (earlier q.member) + n) (length-map (event_behind persons earlier) (next (number_in persons q.member))) in
+        ∙ ap (λ (n : ℕ). length (earlier q.member) + n) (length-map (next (number_in persons q.member)) (event_behind persons earlier)) in
         let behind : length (earlier q.member) ≤ q.index = omega arith in
         (behind, Later (ap (number_in persons) same) (omega arith) (omega arith))
     edge_inside {p} {q} (Message m c d) past =
@@ -337,7 +337,7 @@ module _ (size : ℕ) (earlier : Lists) (persons : List ℕ) (run : Run size ear
 
     -- every message of the next group comes behind all before
     pub comes_behind : ComesBehind earlier persons next
-    unfolding place_behind
+    unfolding place_behind cast_put
     comes_behind a m (place_a, of_a) (place_m, of_m) = by_event had.event had.stands had.named
       where
         inside : place_m.member < length persons
@@ -350,7 +350,6 @@ module _ (size : ℕ) (earlier : Lists) (persons : List ℕ) (run : Run size ear
         here = record { member = person_of persons place_m.member; index = had.index }
 
         later : Edge (put_behind persons earlier next) here (place_behind place_m)
-        unfolding here
         later =
             let less : had.index < length (earlier (person_of persons place_m.member)) =
             slice_get_within (earlier (person_of persons place_m.member)) had.index had.event had.stands in
@@ -358,7 +357,6 @@ module _ (size : ℕ) (earlier : Lists) (persons : List ℕ) (run : Run size ear
 
         by_event : (e : CausalEvent) → slice_get (earlier (person_of persons place_m.member)) had.index ≡ Some e → name_of e ≡ a
             → HappenedBefore (put_behind persons earlier next) a (name_behind persons earlier m)
-        unfolding here
         by_event (Cast x payload) at named = record {
           from = here;
           to = place_behind place_m;

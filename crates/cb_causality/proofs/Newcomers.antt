@@ -186,12 +186,12 @@ module _ (size : ℕ) (lists : Lists) (newcomer : Newcomer) (run : Run size list
 
   -- until all are shown
   pub newcomer_runs : Run size (with_newcomer newcomer lists)
+  unfolding shown_first
   newcomer_runs =
       depends_on_lists_alone (Run size) (shown_first (length (lists newcomer.after))) (with_newcomer newcomer lists) (λ p. agree p)
       (shown_runs (length (lists newcomer.after)) (omega arith))
     where
       agree : (p : ℕ) → shown_first (length (lists newcomer.after)) p ≡ with_newcomer newcomer lists p
-      unfolding shown_first
       agree p = rw (take_whole (lists newcomer.after)) refl
 
 -- any number of newcomers
