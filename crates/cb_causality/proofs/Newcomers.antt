@@ -30,7 +30,7 @@ take_more (y ∷ ys) zero x at = let one : y ≡ x = cc in ap (λ (z : _). z ∷
 take_more (y ∷ ys) (suc j) x at = ap (λ (l : List _). y ∷ l) (take_more ys j x at)
 
 -- in a list two places of one name are one
-once_in_list : (lists : Lists) → IsSound lists → (p i j : ℕ) (e f : CausalEvent) → slice_get (lists p) i ≡ Some e → slice_get (lists p) j ≡ Some f
+pub once_in_list : (lists : Lists) → IsSound lists → (p i j : ℕ) (e f : CausalEvent) → slice_get (lists p) i ≡ Some e → slice_get (lists p) j ≡ Some f
     → name_of e ≡ name_of f → i ≡ j
 once_in_list lists sound p i j e f at_i at_j same =
     let number_e : (name_of e).number ≡ count (name_of e).sender (take i (lists p)) + 1 = sound.in_order (record { member = p; index = i }) e at_i in

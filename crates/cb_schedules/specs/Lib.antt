@@ -19,3 +19,5 @@ pub mod Restarts
 pub mod RestartLaws
 pub mod RestartRounds
 pub mod ForgettingRestarts
+pub mod Succession
+pub mod SuccessionLaws
