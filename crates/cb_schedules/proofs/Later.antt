@@ -26,7 +26,7 @@ use Rattle.cb_schedules.specs.Consistent.{IsConsistent}
 use Rattle.cb_schedules.specs.RoundLaws.{IsNoCastStep}
 use Rattle.cb_schedules.proofs.Members.{stands_at}
 
-own_casts-append : (facts more : List Fact) → own_casts (facts ++ more) ≡ own_casts facts ++ own_casts more
+pub own_casts-append : (facts more : List Fact) → own_casts (facts ++ more) ≡ own_casts facts ++ own_casts more
 own_casts-append [] more = refl
 own_casts-append (OwnCast c ∷ facts) more = ap (λ (cs : List CastFields). c ∷ cs) (own_casts-append facts more)
 own_casts-append (CastReceived c ∷ facts) more = own_casts-append facts more
