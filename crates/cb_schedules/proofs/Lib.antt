@@ -51,3 +51,7 @@ pub mod Forgetting
 pub mod Cores
 pub mod CoreRounds
 pub mod CoreHelpRounds
+pub mod EndLists
+pub mod SuccessionLaws
+pub mod SuccessionSteps
+pub mod Successions

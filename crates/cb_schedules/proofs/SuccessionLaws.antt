@@ -97,7 +97,7 @@ module _ (g : EndableGroup) (lists : StampedLists) (begun : List Begin) (is : Is
   stands_erased : (k a : ℕ) (e : Event) → slice_get (lists k) a ≡ Some e → slice_get (erased lists k) a ≡ Some (without_time e)
   stands_erased k a e at = get_map without_time (lists k) a e at
 
-  cast_from_erased : (k a : ℕ) (m : Name) (payload : List ℕ) → slice_get (erased lists k) a ≡ Some (causal.Cast m payload)
+  pub cast_from_erased : (k a : ℕ) (m : Name) (payload : List ℕ) → slice_get (erased lists k) a ≡ Some (causal.Cast m payload)
       → (x : Message) × (slice_get (lists k) a ≡ Some (Cast x)) × (x.name ≡ m) × (x.payload ≡ payload)
   cast_from_erased k a m payload at =
       let (e, stands, same) = get_map_from without_time (lists k) a (causal.Cast m payload) at in by_event e stands same
@@ -176,7 +176,7 @@ module _ (g : EndableGroup) (lists : StampedLists) (begun : List Begin) (is : Is
     pub so : BeganSo g (lists b.member) (take n begun) b
     so = is.begins n b at_b
 
-    asks : MayBegin g (take n begun) so.then_events b.member b.text b.plan
+    pub asks : MayBegin g (take n begun) so.then_events b.member b.text b.plan
     asks = may_begin_asks g (take n begun) so.then_events b.member b.text b.plan so.may
 
     -- what stood there then stands there now
@@ -189,7 +189,7 @@ module _ (g : EndableGroup) (lists : StampedLists) (begun : List Begin) (is : Is
         sym (get_left so.then_events so.more a less) ∙ ap (λ (es : List Event). slice_get es a) (sym so.goes_on) ∙ at
 
     -- it had the END of each of the list
-    had_end : (k : ℕ) → is_listed k b.plan ≡ true → (a : ℕ) × (e : Event) × (slice_get so.then_events a ≡ Some e) × ((message_of e).name.sender ≡ k) × ((message_of e).payload ≡ b.text)
+    pub had_end : (k : ℕ) → is_listed k b.plan ≡ true → (a : ℕ) × (e : Event) × (slice_get so.then_events a ≡ Some e) × ((message_of e).name.sender ≡ k) × ((message_of e).payload ≡ b.text)
     had_end k listed =
         let some : list_any (is_end_by b.text k) so.then_events ≡ true =
         each_of (λ k. list_any (is_end_by b.text k) so.then_events) b.plan.list k asks.ended (listed_in k b.plan listed) in

@@ -21,3 +21,4 @@ pub mod RestartRounds
 pub mod ForgettingRestarts
 pub mod Succession
 pub mod SuccessionLaws
+pub mod SuccessionRounds

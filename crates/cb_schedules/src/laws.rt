@@ -9,6 +9,7 @@ mod knowledge;
 mod restarts;
 mod rounds;
 mod runs;
+mod succession;
 
 pub use forgetting::{
     a_few_rounds_of_cores_repair_whatever_was_lost, causal_broadcast_without_histories,
@@ -41,3 +42,6 @@ pub use rounds::{
     what_has_arrived_everywhere_is_delivered,
 };
 pub use runs::runs_go_on_step_by_step;
+pub use succession::{
+    nobody_begins_beside_them, the_old_group_is_not_needed, those_who_begin_have_the_same_cut,
+};

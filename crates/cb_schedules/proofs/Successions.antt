@@ -1,0 +1,198 @@
+-- The laws of successions, from what holds after every list of steps.
+use Rattle.std.specs.Prelude.{slice_get, bytes_eq, nat_le}
+use Rattle.std.specs.List.{filter, list_any, flat_map}
+use Rattle.std.proofs.Common.{◌≡◌, ℕ, zero, suc, ◌+◌, ◌<◌, ◌≤◌, ◌⊎◌, ◌&&◌, Bool, true, false, cond, eqb, inl, inr, Option, List, [], ◌∷◌, ◌++◌, length, take, Some, None, refl, sym, ◌∙◌, ap, subst, arith, append-nil, append_assoc}
+use Rattle.std.proofs.lemmas.Bool.{cases_Bool, cases_eq, cond_both, and_parts, eqb-true, eq-eqb, ne_eqb}
+use Rattle.std.proofs.lemmas.List.Elements.{filter-append}
+use Rattle.cb_times.specs.declared.name.Name.{Name}
+use Rattle.cb_frames.specs.Fields.{One}
+use Rattle.cb_delay.specs.declared.message.Message.{Message}
+use Rattle.cb_delay.specs.declared.message.Event.{Event}
+use Rattle.cb_delay.specs.declared.message.Event.TheVariants.{Cast}
+use Rattle.cb_causality.specs.Events.{Has}
+use Rattle.cb_causality.specs.HappenedBefore.{Lists}
+use Rattle.cb_causality.specs.Parts.{part}
+use Rattle.cb_causality.specs.StampedMachine.{without_times}
+use Rattle.cb_causality.proofs.Extending.{stamped_extends_runs}
+use Rattle.cb_history.proofs.Views.{IsIn}
+use Rattle.cb_history.proofs.Lists.{flat_map-append, one_of}
+use Rattle.cb_schedules.specs.Schedule.{Step, CastStep, ArriveStep, TickStep, HelpStep, step_after}
+use Rattle.cb_schedules.specs.Messages.{stamped_lists, causal_lists}
+use Rattle.cb_schedules.specs.Succession.{Plan, Reading, EndableGroup, IsEndable, is_own_end, upto_end, cut_field, Begin, may_talk, may_end, may_begin, shown_at_begin, the_rules, SuccessionStep, Happens, Ends, Begins, SuccessionState, and_happens, and_ends, and_begins, succession_step, succession_from, nobody_yet, succession, shown}
+use Rattle.cb_schedules.specs.SuccessionLaws.{EachSuccession, HasBegun, HasBeenShown, HasEnded, IsInTheCut, ExactlyTheCutIsShown, EndsBy, WhatWasShownIsInTheCut, CastsAreInTheCut, TheCutIsOneVector, cut_told, lists_at_the_cut, TheCutIsCausal, ShownListsGoOn, NobodyBeginsByALaterPlan, OneNumberHasOneText, AreInEveryList, TheLastListGoesOneWay, TheCutIsDelivered}
+use Rattle.cb_schedules.proofs.Courses.{step_goes_on}
+use Rattle.cb_schedules.proofs.EndLists.{upto_stays, upto_all, is_end, filter_none, same_text}
+use Rattle.cb_schedules.proofs.Lists.{index_of, in_by_index}
+use Rattle.cb_schedules.proofs.SuccessionLaws.{IsSucceeding, shown_is_the_cut, shown_before_is_in_cut, casts_are_in_cut, vector_now, cut_is_a_run, shown_at_its_begin, nobody_by_a_later_plan, one_number_one_text, one_way, cut_is_had}
+use Rattle.cb_schedules.proofs.SuccessionSteps.{SuccessionSo, step_is_so, successions_are_so, began_has_ended}
+
+-- what follows from it is so after every list of steps
+pub each_succession : (P : EndableGroup → SuccessionState → Type 0) → ((g : EndableGroup) (t : SuccessionState) → IsEndable g → SuccessionSo g t → P g t) → EachSuccession P
+each_succession P holds g steps endable = holds g (succession the_rules g steps) endable (successions_are_so g endable steps)
+
+module _ (g : EndableGroup) (t : SuccessionState) (endable : IsEndable g) (so : SuccessionSo g t) where
+  -- ---- the cut
+
+  pub exactly_the_cut_is_shown : ExactlyTheCutIsShown g t
+  exactly_the_cut_is_shown b m (n, at) =
+      let is : shown g t b.member ≡ upto_end g.plan_in (stamped_lists g.setting t.group b.member) ++ b.shown =
+      ap (λ (es : List Event). upto_end g.plan_in (stamped_lists g.setting t.group b.member) ++ es) (shown_at_its_begin g (stamped_lists g.setting t.group) t.begun so.succeeding n b at) in
+      let both = shown_is_the_cut g (stamped_lists g.setting t.group) t.begun so.succeeding n b at m in (
+        λ h. both.0 (subst (λ (es : List Event). Has (without_times es) m) is h),
+        λ in_cut. subst (λ (es : List Event). Has (without_times es) m) (sym is) (both.1 in_cut),
+      )
+
+  pub what_was_shown_is_in_the_cut : WhatWasShownIsInTheCut g t
+  what_was_shown_is_in_the_cut i text plan m ends h =
+      shown_before_is_in_cut g (stamped_lists g.setting t.group) t.begun so.succeeding i text plan ends.read ends.listed ends.end m h
+
+  pub casts_are_in_the_cut : CastsAreInTheCut g t
+  casts_are_in_the_cut i text plan index m payload ends at =
+      casts_are_in_cut g (stamped_lists g.setting t.group) t.begun so.succeeding i text plan ends.read ends.listed ends.end index m payload at
+
+  pub the_cut_is_one_vector : TheCutIsOneVector g t
+  the_cut_is_one_vector b m (n, at) one = vector_now g (stamped_lists g.setting t.group) t.begun so.succeeding n b at m one
+
+  pub the_cut_is_causal : TheCutIsCausal g t
+  the_cut_is_causal b (n, at) =
+      cut_is_a_run g (stamped_lists g.setting t.group) t.begun so.succeeding n b at (lists_at_the_cut g t b) (λ k. each k)
+    where
+      each : (k : ℕ) → (lists_at_the_cut g t b k ≡ part (λ m. nat_le m.number (cut_field b.text b.plan (stamped_lists g.setting t.group b.member) m.sender)) (causal_lists g.setting t.group) k)
+          ⊎ ((m : ℕ) × (c : Begin) × (slice_get t.begun m ≡ Some c) × (c.member ≡ k) × (b.text ≡ c.text)
+          × (lists_at_the_cut g t b k ≡ without_times (upto_end g.plan_in (stamped_lists g.setting t.group k) ++ c.shown)))
+      each k =
+          elim (cases_Bool (list_any (λ c. eqb c.member k && bytes_eq b.text c.text) t.begun)) [
+            | inl yes ↦
+                let (c, there, passes) = one_of (λ (c : Begin). eqb c.member k && bytes_eq b.text c.text) t.begun yes in
+                let (m, at_c) = index_of t.begun c there in
+                let both = and_parts (eqb c.member k) (bytes_eq b.text c.text) passes in
+                let member : c.member ≡ k = eqb-true c.member k both.0 in
+                let its : flat_map (λ (d : Begin). d.shown) (filter (λ (d : Begin). eqb d.member k) t.begun) ≡ c.shown =
+                subst (λ (j : ℕ). flat_map (λ (d : Begin). d.shown) (filter (λ (d : Begin). eqb d.member j) t.begun) ≡ c.shown) member
+                (shown_at_its_begin g (stamped_lists g.setting t.group) t.begun so.succeeding m c at_c) in
+                inr (m, c, at_c, member, same_text b.text c.text both.1,
+                rw yes (ap (λ (es : List Event). without_times (upto_end g.plan_in (stamped_lists g.setting t.group k) ++ es)) its))
+            | inr no ↦ inl (rw no refl)
+          ]
+
+  pub the_cut_is_delivered : TheCutIsDelivered g t
+  the_cut_is_delivered b m (n, at) in_cut = cut_is_had g (stamped_lists g.setting t.group) t.begun so.succeeding n b at m in_cut
+
+  -- ---- nobody beside them
+
+  pub nobody_begins_by_a_later_plan : NobodyBeginsByALaterPlan g t
+  nobody_begins_by_a_later_plan b c (n, at_b) (m, at_c) later listed =
+      nobody_by_a_later_plan g (stamped_lists g.setting t.group) t.begun so.succeeding n m b c at_b at_c later listed
+
+  pub one_number_has_one_text : OneNumberHasOneText g t
+  one_number_has_one_text b c (n, at_b) (m, at_c) same listed =
+      one_number_one_text g (stamped_lists g.setting t.group) t.begun so.succeeding n m b c at_b at_c same listed
+
+  pub the_last_list_goes_one_way : TheLastListGoesOneWay g t
+  the_last_list_goes_one_way last b c all (n, at_b) (m, at_c) b_last c_last =
+      one_way g (stamped_lists g.setting t.group) t.begun so.succeeding n m b c at_b at_c (all c b.member (m, at_c) b_last) (all b c.member (n, at_b) c_last)
+
+-- ---- nothing that was shown is taken back
+
+no_further : (g : EndableGroup) (t : SuccessionState) (i : ℕ) → (more : List Event) × (shown g t i ≡ shown g t i ++ more)
+no_further g t i = ([], sym (append-nil (shown g t i)))
+
+module _ (g : EndableGroup) (endable : IsEndable g) (t : SuccessionState) (so : SuccessionSo g t) (i : ℕ) where
+  abbrev its_begins : List Event
+  its_begins = flat_map (λ (b : Begin). b.shown) (filter (λ (b : Begin). eqb b.member i) t.begun)
+
+  -- who has cast no END has not begun
+  no_end_no_begin : ((a : ℕ) (e : Event) → slice_get (stamped_lists g.setting t.group i) a ≡ Some e → is_own_end g.plan_in e ≡ false)
+      → flat_map (λ (b : Begin). b.shown) (filter (λ (b : Begin). eqb b.member i) t.begun) ≡ []
+  no_end_no_begin none =
+      ap (flat_map (λ (b : Begin). b.shown)) (filter_none (λ (b : Begin). eqb b.member i) t.begun (λ n b at. by_test n b at (cases_Bool (eqb b.member i))))
+    where
+      by_test : (n : ℕ) (b : Begin) → slice_get t.begun n ≡ Some b → (eqb b.member i ≡ true) ⊎ (eqb b.member i ≡ false) → eqb b.member i ≡ false
+      by_test n b at (inr no) = no
+      by_test n b at (inl yes) =
+          let same : b.member ≡ i = eqb-true b.member i yes in
+          let (a, x, stands, read) = began_has_ended g endable t so n b at in
+          let here : slice_get (stamped_lists g.setting t.group i) a ≡ Some (Cast x) = subst (λ (j : ℕ). slice_get (stamped_lists g.setting t.group j) a ≡ Some (Cast x)) same stands in
+          let is : is_own_end g.plan_in (Cast x) ≡ true = is_end g.plan_in x b.plan read in
+          let not_so : is_own_end g.plan_in (Cast x) ≡ false = none a (Cast x) here in
+          absurd (cc)
+
+  group_goes_on : (step : Step) → (more : List Event) × (shown g (and_happens g t step) i ≡ shown g t i ++ more)
+  group_goes_on step =
+      let (more, is) = (stamped_extends_runs g.setting.group.size).beginning (stamped_lists g.setting t.group) (stamped_lists g.setting (step_after g.setting t.group step))
+      (step_goes_on g.setting endable.is_setting t.group so.consistent step).1 i in
+      elim (cases_Bool (list_any (is_own_end g.plan_in) (stamped_lists g.setting t.group i))) [
+        | inl some ↦
+            let (e, there, yes) = one_of (is_own_end g.plan_in) (stamped_lists g.setting t.group i) some in
+            let (a, at) = index_of (stamped_lists g.setting t.group i) e there in
+            ([], ap (λ (es : List Event). es ++ its_begins) (ap (upto_end g.plan_in) is ∙ upto_stays g.plan_in (stamped_lists g.setting t.group i) more a e at yes)
+            ∙ sym (append-nil (shown g t i)))
+        | inr none ↦
+            let no_end : (a : ℕ) (e : Event) → slice_get (stamped_lists g.setting t.group i) a ≡ Some e → is_own_end g.plan_in e ≡ false =
+            λ a e at. none_there (stamped_lists g.setting t.group i) none a e at in
+            let nothing = no_end_no_begin no_end in
+            let before : shown g t i ≡ stamped_lists g.setting t.group i =
+            ap (λ (es : List Event). upto_end g.plan_in (stamped_lists g.setting t.group i) ++ es) nothing ∙ append-nil (upto_end g.plan_in (stamped_lists g.setting t.group i))
+            ∙ ap (upto_end g.plan_in) (sym (append-nil (stamped_lists g.setting t.group i))) ∙ upto_all g.plan_in (stamped_lists g.setting t.group i) [] no_end ∙ append-nil (stamped_lists g.setting t.group i) in
+            (upto_end g.plan_in more, ap (λ (es : List Event). upto_end g.plan_in (stamped_lists g.setting (step_after g.setting t.group step) i) ++ es) nothing
+            ∙ append-nil (upto_end g.plan_in (stamped_lists g.setting (step_after g.setting t.group step) i))
+            ∙ ap (upto_end g.plan_in) is ∙ upto_all g.plan_in (stamped_lists g.setting t.group i) more no_end
+            ∙ ap (λ (es : List Event). es ++ upto_end g.plan_in more) (sym before))
+      ]
+    where
+      none_there : (es : List Event) → list_any (is_own_end g.plan_in) es ≡ false → (a : ℕ) (e : Event) → slice_get es a ≡ Some e → is_own_end g.plan_in e ≡ false
+      none_there [] none a e at = absurd (cc)
+      none_there (x ∷ es) none a e at = by_first a (is_own_end g.plan_in x) refl none at
+        where
+          by_first : (a : ℕ) (b : Bool) → is_own_end g.plan_in x ≡ b → (cond b true (list_any (is_own_end g.plan_in) es)) ≡ false → slice_get (x ∷ es) a ≡ Some e → is_own_end g.plan_in e ≡ false
+          by_first a true is none at = absurd (cc)
+          by_first zero false is none at = let one : x ≡ e = cc in ap (is_own_end g.plan_in) (sym one) ∙ is
+          by_first (suc a) false is none at = none_there es none a e at
+
+  begin_goes_on : (b : Begin) → (more : List Event) × (shown g (record { group = t.group; begun = t.begun ++ b ∷ [] }) i ≡ shown g t i ++ more)
+  begin_goes_on b = (
+    flat_map (λ (c : Begin). c.shown) (filter (λ (c : Begin). eqb c.member i) (b ∷ [])),
+    ap (λ (bs : List Begin). upto_end g.plan_in (stamped_lists g.setting t.group i) ++ flat_map (λ (c : Begin). c.shown) bs) (filter-append (λ (c : Begin). eqb c.member i) t.begun (b ∷ []))
+    ∙ ap (λ (es : List Event). upto_end g.plan_in (stamped_lists g.setting t.group i) ++ es)
+    (flat_map-append (λ (c : Begin). c.shown) (filter (λ (c : Begin). eqb c.member i) t.begun) (filter (λ (c : Begin). eqb c.member i) (b ∷ [])))
+    ∙ sym (append_assoc (upto_end g.plan_in (stamped_lists g.setting t.group i)) its_begins (flat_map (λ (c : Begin). c.shown) (filter (λ (c : Begin). eqb c.member i) (b ∷ [])))),
+  )
+
+  step_shows_more : (step : SuccessionStep) → (more : List Event) × (shown g (succession_step the_rules g t step) i ≡ shown g t i ++ more)
+  unfolding succession_step
+  step_shows_more (Happens (CastStep j load)) =
+      cond_both (may_talk g t.group j load) (and_happens g t (CastStep j load)) t (λ (after : SuccessionState). (more : List Event) × (shown g after i ≡ shown g t i ++ more))
+      (λ _. group_goes_on (CastStep j load)) (λ _. no_further g t i)
+  step_shows_more (Happens (ArriveStep j number)) = group_goes_on (ArriveStep j number)
+  step_shows_more (Happens (TickStep j)) = group_goes_on (TickStep j)
+  step_shows_more (Happens (HelpStep j k)) = group_goes_on (HelpStep j k)
+  step_shows_more (Ends j text) = by_plan (g.plan_in text)
+    where
+      by_plan : (o : Option Plan) → (more : List Event) × (shown g (and_ends the_rules g t j text o) i ≡ shown g t i ++ more)
+      by_plan None = no_further g t i
+      by_plan (Some plan) =
+          cond_both (may_end g t.begun (stamped_lists g.setting t.group j) j plan) (and_happens g t (CastStep j (One text))) t (λ (after : SuccessionState). (more : List Event) × (shown g after i ≡ shown g t i ++ more))
+          (λ _. group_goes_on (CastStep j (One text))) (λ _. no_further g t i)
+  step_shows_more (Begins j text) = by_plan (g.plan_in text)
+    where
+      by_plan : (o : Option Plan) → (more : List Event) × (shown g (and_begins the_rules g t j text o) i ≡ shown g t i ++ more)
+      by_plan None = no_further g t i
+      by_plan (Some plan) =
+          cond_both (may_begin g t.begun (stamped_lists g.setting t.group j) j text plan) _ t (λ (after : SuccessionState). (more : List Event) × (shown g after i ≡ shown g t i ++ more))
+          (λ _. begin_goes_on (record { member = j; text = text; plan = plan; shown = shown_at_begin g (stamped_lists g.setting t.group j) text plan })) (λ _. no_further g t i)
+
+-- a list of steps and one more
+pub succession_joins : (g : EndableGroup) (t : SuccessionState) (steps more : List SuccessionStep)
+    → succession_from the_rules g t (steps ++ more) ≡ succession_from the_rules g (succession_from the_rules g t steps) more
+unfolding succession_from
+succession_joins g t [] more = refl
+succession_joins g t (step ∷ steps) more = succession_joins g (succession_step the_rules g t step) steps more
+
+one_step : (g : EndableGroup) (t : SuccessionState) (step : SuccessionStep) → succession_from the_rules g t (step ∷ []) ≡ succession_step the_rules g t step
+unfolding succession_from
+one_step g t step = refl
+
+pub shown_lists_go_on : ShownListsGoOn
+shown_lists_go_on g steps step i endable =
+    let (more, is) = step_shows_more g endable (succession the_rules g steps) (successions_are_so g endable steps) i step in
+    (more, ap (λ (t : SuccessionState). shown g t i) (succession_joins g nobody_yet steps (step ∷ []) ∙ one_step g (succession the_rules g steps) step) ∙ is)
