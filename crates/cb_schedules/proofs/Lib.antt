@@ -55,3 +55,6 @@ pub mod EndLists
 pub mod SuccessionLaws
 pub mod SuccessionSteps
 pub mod Successions
+pub mod SuccessionRows
+pub mod EndsHaveRoom
+pub mod SuccessionRounds

@@ -96,7 +96,7 @@ module _ (setting : Setting) (is : IsSetting setting) (s : GroupState) (inv : Is
           }
 
   -- by a step that asks for a cast
-  cast_step_adds : (i : ℕ) (load : Load) (k : ℕ) → OwnMore setting s i load k (facts_at s k) (facts_at (step_after setting s (CastStep i load)) k)
+  pub cast_step_adds : (i : ℕ) (load : Load) (k : ℕ) → OwnMore setting s i load k (facts_at s k) (facts_at (step_after setting s (CastStep i load)) k)
   unfolding step_after
   cast_step_adds i load k =
       cond_both (ltb i setting.group.size) _ _ Adds
@@ -141,7 +141,7 @@ module _ (setting : Setting) (is : IsSetting setting) (s after : GroupState) (in
             subst (λ (fs : List Fact). casts_among (events (seat_at setting k) fs) ≡ messages_in (own_casts fs)) (sym none) (nothing_seen (seat_at setting k))
       ]
 
-  more_casts : (k : ℕ) (extra : List CastFields) → own_casts (facts_at after k) ≡ own_casts (facts_at s k) ++ extra
+  pub more_casts : (k : ℕ) (extra : List CastFields) → own_casts (facts_at after k) ≡ own_casts (facts_at s k) ++ extra
       → (more : List Event) × (stamped_lists setting after k ≡ stamped_lists setting s k ++ more) × (casts_among more ≡ messages_in extra)
   more_casts k extra own =
       let (more, goes_on) = (stamped_extends_runs setting.group.size).beginning (stamped_lists setting s) (stamped_lists setting after) extends k in (
@@ -152,7 +152,7 @@ module _ (setting : Setting) (is : IsSetting setting) (s after : GroupState) (in
         ∙ flat_map-append messages_of (own_casts (facts_at s k)) extra ∙ ap (λ (ms : List Carried). ms ++ messages_in extra) (sym (casts_own s inv k))),
       )
 
-messages_are : (c : CastFields) → messages_of c ≡ numbered c.sender c.number (payloads_of c.load)
+pub messages_are : (c : CastFields) → messages_of c ≡ numbered c.sender c.number (payloads_of c.load)
 unfolding messages_of
 messages_are c = refl
 
@@ -268,7 +268,7 @@ module _ (g : EndableGroup) (endable : IsEndable g) (t : SuccessionState) (so : 
     };
   }
 
-  more_of : (step : Step) (k : ℕ) (extra : List CastFields) → own_casts (facts_at (step_after g.setting t.group step) k) ≡ own_casts (facts_at t.group k) ++ extra
+  pub more_of : (step : Step) (k : ℕ) (extra : List CastFields) → own_casts (facts_at (step_after g.setting t.group step) k) ≡ own_casts (facts_at t.group k) ++ extra
       → (more : List Event) × (stamped_lists g.setting (step_after g.setting t.group step) k ≡ stamped_lists g.setting t.group k ++ more) × (casts_among more ≡ messages_in extra)
   more_of step k extra own =
       more_casts g.setting endable.is_setting t.group (step_after g.setting t.group step) so.consistent (step_goes_on g.setting endable.is_setting t.group so.consistent step).0
@@ -429,7 +429,7 @@ module _ (g : EndableGroup) (endable : IsEndable g) (t : SuccessionState) (so : 
 
 -- ---- all steps
 
-nobody_is_so : (g : EndableGroup) → IsEndable g → SuccessionSo g nobody_yet
+pub nobody_is_so : (g : EndableGroup) → IsEndable g → SuccessionSo g nobody_yet
 unfolding view
 nobody_is_so g endable = record {
   consistent = starts g.setting endable.is_setting;

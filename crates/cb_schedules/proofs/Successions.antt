@@ -19,7 +19,7 @@ use Rattle.cb_history.proofs.Lists.{flat_map-append, one_of}
 use Rattle.cb_schedules.specs.Schedule.{Step, CastStep, ArriveStep, TickStep, HelpStep, step_after}
 use Rattle.cb_schedules.specs.Messages.{stamped_lists, causal_lists}
 use Rattle.cb_schedules.specs.Succession.{Plan, Reading, EndableGroup, IsEndable, is_own_end, upto_end, cut_field, Begin, may_talk, may_end, may_begin, shown_at_begin, the_rules, SuccessionStep, Happens, Ends, Begins, SuccessionState, and_happens, and_ends, and_begins, succession_step, succession_from, nobody_yet, succession, shown}
-use Rattle.cb_schedules.specs.SuccessionLaws.{EachSuccession, HasBegun, HasBeenShown, HasEnded, IsInTheCut, ExactlyTheCutIsShown, EndsBy, WhatWasShownIsInTheCut, CastsAreInTheCut, TheCutIsOneVector, cut_told, lists_at_the_cut, TheCutIsCausal, ShownListsGoOn, NobodyBeginsByALaterPlan, OneNumberHasOneText, AreInEveryList, TheLastListGoesOneWay, TheCutIsDelivered}
+use Rattle.cb_schedules.specs.SuccessionLaws.{EachSuccession, HasBegun, HasBeenShown, HasEnded, IsInTheCut, ExactlyTheCutIsShown, TheSameIsShown, EndsBy, WhatWasShownIsInTheCut, CastsAreInTheCut, TheCutIsOneVector, cut_told, lists_at_the_cut, TheCutIsCausal, ShownListsGoOn, NobodyBeginsByALaterPlan, OneNumberHasOneText, AreInEveryList, TheLastListGoesOneWay, TheCutIsDelivered}
 use Rattle.cb_schedules.proofs.Courses.{step_goes_on}
 use Rattle.cb_schedules.proofs.EndLists.{upto_stays, upto_all, is_end, filter_none, same_text}
 use Rattle.cb_schedules.proofs.Lists.{index_of, in_by_index}
@@ -41,6 +41,15 @@ module _ (g : EndableGroup) (t : SuccessionState) (endable : IsEndable g) (so : 
         λ h. both.0 (subst (λ (es : List Event). Has (without_times es) m) is h),
         λ in_cut. subst (λ (es : List Event). Has (without_times es) m) (sym is) (both.1 in_cut),
       )
+
+  pub the_same_is_shown : TheSameIsShown g t
+  the_same_is_shown b c m (n, at_b) (l, at_c) text h =
+      let plans : Some b.plan ≡ Some c.plan =
+      sym (so.succeeding.begins n b at_b).read ∙ ap g.plan_in text ∙ (so.succeeding.begins l c at_c).read in
+      let plan : b.plan ≡ c.plan = cc plans in
+      (exactly_the_cut_is_shown c m (l, at_c)).1
+      (subst (λ (p : Plan). IsInTheCut (causal_lists g.setting t.group) c.text p m) plan
+      (subst (λ (x : List ℕ). IsInTheCut (causal_lists g.setting t.group) x b.plan m) text ((exactly_the_cut_is_shown b m (n, at_b)).0 h)))
 
   pub what_was_shown_is_in_the_cut : WhatWasShownIsInTheCut g t
   what_was_shown_is_in_the_cut i text plan m ends h =

@@ -22,3 +22,4 @@ pub mod ForgettingRestarts
 pub mod Succession
 pub mod SuccessionLaws
 pub mod SuccessionRounds
+pub mod SuccessionTraps

@@ -49,6 +49,10 @@ ExactlyTheCutIsShown g t =
     (b : Begin) (m : Name) → HasBegun t b
     → HasBeenShown g t b.member m ↔ IsInTheCut (causal_lists g.setting t.group) b.text b.plan m
 
+abbrev pub TheSameIsShown : EndableGroup → SuccessionState → Type 0
+TheSameIsShown g t =
+    (b c : Begin) (m : Name) → HasBegun t b → HasBegun t c → b.text ≡ c.text → HasBeenShown g t b.member m → HasBeenShown g t c.member m
+
 -- this plan, which lists member i, was read in this text, and member i has cast its END
 pub record EndsBy (g : EndableGroup) (t : SuccessionState) (i : ℕ) (text : List ℕ) (plan : Plan) : Type 0 where
   pub read : g.plan_in text ≡ Some plan

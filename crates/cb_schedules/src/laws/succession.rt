@@ -1,10 +1,13 @@
 //! Groups that follow one another: those who go on end the old group at one cut, and nobody begins the next one beside them.
 
-ghost use Rattle.cb_schedules.specs.SuccessionLaws.{CastsAreInTheCut, EachSuccession, ExactlyTheCutIsShown};
+ghost use Rattle.cb_schedules.specs.SuccessionLaws.{CastsAreInTheCut, EachSuccession, EndsHaveRoom, ExactlyTheCutIsShown};
 ghost use Rattle.cb_schedules.specs.SuccessionLaws.{NobodyBeginsByALaterPlan, OneNumberHasOneText};
 ghost use Rattle.cb_schedules.specs.SuccessionLaws.{ShownListsGoOn, TheCutIsCausal, TheCutIsDelivered};
-ghost use Rattle.cb_schedules.specs.SuccessionLaws.{TheCutIsOneVector, TheLastListGoesOneWay};
+ghost use Rattle.cb_schedules.specs.SuccessionLaws.{TheCutIsOneVector, TheLastListGoesOneWay, TheSameIsShown};
 ghost use Rattle.cb_schedules.specs.SuccessionLaws.{WhatWasShownIsInTheCut};
+ghost use Rattle.cb_schedules.specs.SuccessionRounds.{ADeadMemberIsNotNeeded, WhoComesLateMayBegin};
+ghost use Rattle.cb_schedules.specs.SuccessionTraps.{Breaks, NoReserveLeavesNoRoom, cut_is_now, ends_once};
+ghost use Rattle.cb_schedules.specs.SuccessionTraps.{no_compare, shows_all, takes_older};
 
 /// Those who begin the next group by one plan were shown the same messages: exactly the plan's cut, which is what happened before the
 /// ENDs of those whom it lists. What one of these was shown before it begins is in the cut, and so is each of its casts but later ENDs.
@@ -16,6 +19,7 @@ ghost use Rattle.cb_schedules.specs.SuccessionLaws.{WhatWasShownIsInTheCut};
 /// whatever is lost, repeated or overtaken and whoever is dead.
 pub fn those_who_begin_have_the_same_cut()
     ensures same { EachSuccession ExactlyTheCutIsShown }
+    ensures alike { EachSuccession TheSameIsShown }
     ensures before { EachSuccession WhatWasShownIsInTheCut }
     ensures vector { EachSuccession TheCutIsOneVector }
     ensures causal { EachSuccession TheCutIsCausal }
@@ -35,4 +39,35 @@ pub fn nobody_begins_beside_them()
 /// Who has begun has delivered the whole cut. So when all of a list have begun, no message of the old group is asked for any more.
 pub fn the_old_group_is_not_needed()
     ensures delivered { EachSuccession TheCutIsDelivered }
+{}
+
+/// With kept places a member that has cast fewer ENDs than these has room for one more, also where a dead member keeps its window full:
+/// the END is never refused as WindowFull, as long as the numbers of casts are not used up.
+pub fn an_end_has_room()
+    ensures { EachSuccession EndsHaveRoom }
+{}
+
+/// Where one member is silent, and each of those whom a plan lists has cast its END and none of a greater number, each of these may begin
+/// behind W rounds without it and W / 64 more, rounded up, in which no history is found full: whatever was lost before.
+pub fn a_dead_member_is_not_needed_to_go_on()
+    ensures { ADeadMemberIsNotNeeded }
+{}
+
+/// Where somebody has begun by an earlier plan, each other one whom that plan lists, and whose later plans list the one who began, may
+/// begin by it behind as many rounds without a silent member.
+pub fn who_comes_late_comes_too()
+    ensures { WhoComesLateMayBegin }
+{}
+
+/// Other ways to decide are wrong, each by a list of steps. Where a member begins by an earlier plan without having heard anybody, or
+/// where each casts one END for good, two whom both plans list go two ways. Where the texts of plans of one number are not compared, two
+/// begin by two texts. Where all that was delivered is shown at the begin, or what the member's own time counts then, two who begin by
+/// one plan are shown different messages. And with no place kept a full window has no room for an END.
+pub fn other_rules_are_wrong()
+    ensures takes_older { Breaks takes_older NobodyBeginsByALaterPlan }
+    ensures ends_once { Breaks ends_once NobodyBeginsByALaterPlan }
+    ensures no_compare { Breaks no_compare OneNumberHasOneText }
+    ensures shows_all { Breaks shows_all TheSameIsShown }
+    ensures cut_is_now { Breaks cut_is_now TheSameIsShown }
+    ensures no_reserve { NoReserveLeavesNoRoom }
 {}
