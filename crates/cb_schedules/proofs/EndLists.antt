@@ -1,8 +1,8 @@
 -- Lists of events with ENDs among them.
 use Rattle.std.specs.Prelude.{slice_get, is_some, bytes_eq}
-use Rattle.std.specs.List.{filter, cons_option}
+use Rattle.std.specs.List.{filter, list_any, cons_option}
 use Rattle.std.proofs.Common.{◌≡◌, ℕ, zero, suc, ◌+◌, ◌<◌, ◌≤◌, ◌⊎◌, ◌&&◌, Bool, true, false, cond, eqb, inl, inr, Option, List, [], ◌∷◌, ◌++◌, length, map, max, Some, None, refl, sym, ◌∙◌, ap, subst, arith, append-nil}
-use Rattle.std.proofs.lemmas.Bool.{cases_Bool, cases_lt, cond_both, and_parts, eqb-true}
+use Rattle.std.proofs.lemmas.Bool.{cases_Bool, cases_lt, cond_both, and_parts, eqb-true, both_ways}
 use Rattle.std.proofs.lemmas.Option.{slice_get_within}
 use Rattle.std.proofs.lemmas.Slice.Eq.{bytes_eq-Decides}
 use Rattle.cb_times.specs.Order.{field}
@@ -15,7 +15,7 @@ use Rattle.cb_frames.specs.Fields.{Carried}
 use Rattle.cb_history.specs.Known.{greatest_of}
 use Rattle.cb_history.proofs.Views.{IsIn, filter_in, in_filter}
 use Rattle.cb_schedules.specs.Succession.{Plan, Reading, is_listed, own_plan, is_own_end, own_plans, is_end_by, is_end_in, upto_end, behind_end, cut_field, Begin}
-use Rattle.cb_schedules.proofs.Lists.{index_of, in_by_index}
+use Rattle.cb_schedules.proofs.Lists.{index_of, in_by_index, in_any}
 
 -- ---- lists
 
@@ -45,8 +45,16 @@ module _ {X : Type 0} where
   filter_same_on p q (x ∷ xs) same =
       let rest : filter p xs ≡ filter q xs = filter_same_on p q xs (λ i y at. same (suc i) y at) in
       elim (cases_Bool (q x)) [
-        | inl yes ↦ rw (same 0 x refl, yes) (ap (λ (l : List X). x ∷ l) rest)
-        | inr no ↦ rw (same 0 x refl, no) rest
+        | inl holds ↦ rw (same 0 x refl, holds) (ap (λ (l : List X). x ∷ l) rest)
+        | inr fails ↦ rw (same 0 x refl, fails) rest
+      ]
+
+  -- where none passes, each fails
+  pub none_passes : (test : X → Bool) (xs : List X) → list_any test xs ≡ false → (i : ℕ) (x : X) → slice_get xs i ≡ Some x → test x ≡ false
+  none_passes test xs none i x at =
+      elim (cases_Bool (test x)) [
+        | inl passes ↦ absurd (both_ways (list_any test xs) none (in_any test xs x (in_by_index xs i x at) passes))
+        | inr fails ↦ fails
       ]
 
   -- one element alone passes
@@ -55,13 +63,13 @@ module _ {X : Type 0} where
   filter_one test [] n x at passes once = absurd (cc)
   filter_one test (y ∷ ys) zero x at passes once =
       let one : y ≡ x = cc in
-      let yes : test y ≡ true = ap test one ∙ passes in
+      let holds : test y ≡ true = ap test one ∙ passes in
       let none : filter test ys ≡ [] =
       filter_none test ys (λ i z z_at. elim (cases_Bool (test z)) [
         | inl z_passes ↦ absurd (let e : suc i ≡ 0 = once (suc i) z z_at z_passes in omega arith)
         | inr fails ↦ fails
       ]) in
-      rw (yes, none) (ap (λ (z : X). z ∷ []) one)
+      rw (holds, none) (ap (λ (z : X). z ∷ []) one)
   filter_one test (y ∷ ys) (suc n) x at passes once =
       elim (cases_Bool (test y)) [
         | inl y_passes ↦ absurd (let e : 0 ≡ suc n = once 0 y refl y_passes in omega arith)
@@ -74,8 +82,8 @@ pub filter_map_of : {X Y : Type 0} (f : X → Y) (test : Y → Bool) (xs : List 
 filter_map_of f test [] = refl
 filter_map_of {X} {Y} f test (x ∷ xs) =
     elim (cases_Bool (test (f x))) [
-      | inl yes ↦ rw yes (ap (λ (l : List Y). f x ∷ l) (filter_map_of f test xs))
-      | inr no ↦ rw no (filter_map_of f test xs)
+      | inl holds ↦ rw holds (ap (λ (l : List Y). f x ∷ l) (filter_map_of f test xs))
+      | inr fails ↦ rw fails (filter_map_of f test xs)
     ]
 
 -- ---- the first own END
@@ -98,24 +106,26 @@ module _ (plan_in : Reading) where
       cond_both (is_own_end plan_in e) (e ∷ []) (e ∷ upto_end plan_in es)
       (λ (l : List Event). slice_get l i ≡ Some f → (slice_get (e ∷ es) i ≡ Some f) × ((a : ℕ) (x : Event) → slice_get (e ∷ es) a ≡ Some x → is_own_end plan_in x ≡ true → i ≤ a))
       (λ here. by_first i)
-      (λ other. by_rest other i) at
+      (λ other. by_rest other i (λ j at_j. upto_stands es j f at_j)) at
     where
       by_first : (i : ℕ) → slice_get (e ∷ []) i ≡ Some f → (slice_get (e ∷ es) i ≡ Some f) × ((a : ℕ) (x : Event) → slice_get (e ∷ es) a ≡ Some x → is_own_end plan_in x ≡ true → i ≤ a)
       by_first zero at = (at, λ a x at_x end. omega arith)
       by_first (suc i) at = absurd (cc)
 
-      by_rest : is_own_end plan_in e ≡ false → (i : ℕ) → slice_get (e ∷ upto_end plan_in es) i ≡ Some f
+      by_rest : is_own_end plan_in e ≡ false → (i : ℕ)
+          → ((j : ℕ) → slice_get (upto_end plan_in es) j ≡ Some f → (slice_get es j ≡ Some f) × ((a : ℕ) (x : Event) → slice_get es a ≡ Some x → is_own_end plan_in x ≡ true → j ≤ a))
+          → slice_get (e ∷ upto_end plan_in es) i ≡ Some f
           → (slice_get (e ∷ es) i ≡ Some f) × ((a : ℕ) (x : Event) → slice_get (e ∷ es) a ≡ Some x → is_own_end plan_in x ≡ true → i ≤ a)
-      by_rest other zero at = (at, λ a x at_x end. omega arith)
-      by_rest other (suc i) at =
-          let (stands, least) = upto_stands es i f at in
+      by_rest other zero rest at = (at, λ a x at_x end. omega arith)
+      by_rest other (suc i) rest at =
+          let (stands, least) = rest i at in
           (stands, λ a x at_x end. behind a x at_x end least)
         where
           behind : (a : ℕ) (x : Event) → slice_get (e ∷ es) a ≡ Some x → is_own_end plan_in x ≡ true
               → ((b : ℕ) (y : Event) → slice_get es b ≡ Some y → is_own_end plan_in y ≡ true → i ≤ b) → suc i ≤ a
           behind zero x at_x end least =
               let one : e ≡ x = cc in
-              let no : is_own_end plan_in x ≡ false = ap (is_own_end plan_in) (sym one) ∙ other in
+              let fails : is_own_end plan_in x ≡ false = ap (is_own_end plan_in) (sym one) ∙ other in
               absurd (cc)
           behind (suc a) x at_x end least = let h : i ≤ a = least a x at_x end in omega arith
 
@@ -187,14 +197,14 @@ both_hold : (a b : Bool) → a ≡ true → b ≡ true → (a && b) ≡ true
 both_hold a b yes_a yes_b = rw (yes_a, yes_b) refl
 
 pub end_by_is : (text : List ℕ) (k : ℕ) (e : Event) → is_end_by text k e ≡ true → ((message_of e).name.sender ≡ k) × ((message_of e).payload ≡ text)
-end_by_is text k e yes =
-    let both = and_parts (eqb (message_of e).name.sender k) (bytes_eq text (message_of e).payload) yes in
+end_by_is text k e holds =
+    let both = and_parts (eqb (message_of e).name.sender k) (bytes_eq text (message_of e).payload) holds in
     (eqb-true (message_of e).name.sender k both.0, sym (same_text text (message_of e).payload both.1))
 
 pub end_in_is : (text : List ℕ) (plan : Plan) (e : Event) → is_end_in text plan e ≡ true
     → (is_listed (message_of e).name.sender plan ≡ true) × ((message_of e).payload ≡ text)
-end_in_is text plan e yes =
-    let both = and_parts (is_listed (message_of e).name.sender plan) (bytes_eq text (message_of e).payload) yes in
+end_in_is text plan e holds =
+    let both = and_parts (is_listed (message_of e).name.sender plan) (bytes_eq text (message_of e).payload) holds in
     (both.0, sym (same_text text (message_of e).payload both.1))
 
 pub is_end_of : (text : List ℕ) (plan : Plan) (e : Event) → is_listed (message_of e).name.sender plan ≡ true → (message_of e).payload ≡ text
@@ -225,15 +235,15 @@ pub cut_field_is : (text : List ℕ) (plan : Plan) (es : List Event) (s t : ℕ)
     → (a : ℕ) × (e : Event) × (slice_get es a ≡ Some e) × (is_end_in text plan e ≡ true) × (t ≤ field (message_of e).time s)
 cut_field_is text plan es s t one most =
     let (e, there, counts) = greatest_is (λ (x : Event). field (message_of x).time s) (filter (is_end_in text plan) es) t one most in
-    let (yes, in_es) = filter_in (is_end_in text plan) es e there in
+    let (holds, in_es) = filter_in (is_end_in text plan) es e there in
     let (a, at) = index_of es e in_es in
-    (a, e, at, yes, counts)
+    (a, e, at, holds, counts)
 
 pub cut_field_counts : (text : List ℕ) (plan : Plan) (es : List Event) (s a : ℕ) (e : Event) → slice_get es a ≡ Some e → is_end_in text plan e ≡ true
     → field (message_of e).time s ≤ cut_field text plan es s
-cut_field_counts text plan es s a e at yes =
+cut_field_counts text plan es s a e at holds =
     greatest_counts (λ (x : Event). field (message_of x).time s) (filter (is_end_in text plan) es) e
-    (in_filter (is_end_in text plan) es e yes (in_by_index es a e at))
+    (in_filter (is_end_in text plan) es e holds (in_by_index es a e at))
 
 -- ---- casts among events
 

@@ -29,7 +29,7 @@ use Rattle.cb_schedules.specs.SuccessionLaws.{EndsHaveRoom, EachSuccession}
 use Rattle.cb_schedules.proofs.EndLists.{casts_of_both}
 use Rattle.cb_schedules.proofs.Later.{MoreFacts, own_casts-append, step_is_later}
 use Rattle.cb_schedules.proofs.StepByStep.{histories_go_on}
-use Rattle.cb_schedules.proofs.SuccessionSteps.{SuccessionSo, OwnMore, cast_step_adds, messages_are, more_of, step_is_so, successions_are_so, nobody_is_so}
+use Rattle.cb_schedules.proofs.SuccessionSteps.{SuccessionSo, OwnMore, cast_step_adds, messages_are, more_of, may_talk_asks, step_is_so, successions_are_so, nobody_is_so}
 
 -- ---- what is counted
 
@@ -151,8 +151,7 @@ module _ (g : EndableGroup) (endable : IsEndable g) where
         cast_room i load (λ more sender n casts.
         let left : delivered (seat_at g.setting i) (facts_at t.group i) i + length (payloads_of load) + g.kept ≤ stable (seat_at g.setting i) (facts_at t.group i) + g.setting.group.window =
         leb-true (delivered (seat_at g.setting i) (facts_at t.group i) i + length (payloads_of load) + g.kept) (stable (seat_at g.setting i) (facts_at t.group i) + g.setting.group.window)
-        (and_parts (list_all (λ payload. is_none (g.plan_in payload)) (payloads_of load) && list_all (λ e. is_none (own_plan g.plan_in e)) (stamped_lists g.setting t.group i)
-        && list_all (λ e. not (leaves_out i (g.plan_in (message_of e).payload))) (stamped_lists g.setting t.group i)) _ may).1 in
+        (may_talk_asks g t.group i load may).room in
         let many : length (casts_among more) ≡ length (payloads_of load) = ap length casts ∙ numbered_are sender n (payloads_of load) in
         omega (arith, left, many, own_is_casts g.setting t.group i)) k room
 

@@ -161,8 +161,9 @@ module _ (g : EndableGroup) (lists : StampedLists) (begun : List Begin) (is : Is
   -- what the time of a plan's END counts is in the cut
   told_is_in_cut : (k a : ℕ) (e : Event) (text : List ℕ) (plan : Plan) (m : Name) → slice_get (lists k) a ≡ Some e → is_end_in text plan e ≡ true
       → 1 ≤ m.number → m.number ≤ field (message_of e).time m.sender → IsInTheCut (erased lists) text plan m
-  told_is_in_cut k a e text plan m at yes one counts =
-      let (listed, is_text) = end_in_is text plan e yes in
+  unfolding ended_by
+  told_is_in_cut k a e text plan m at holds one counts =
+      let (listed, is_text) = end_in_is text plan e holds in
       record {
         member = (message_of e).name.sender;
         listed = listed;
@@ -193,9 +194,9 @@ module _ (g : EndableGroup) (lists : StampedLists) (begun : List Begin) (is : Is
     had_end k listed =
         let some : list_any (is_end_by b.text k) so.then_events ≡ true =
         each_of (λ k. list_any (is_end_by b.text k) so.then_events) b.plan.list k asks.ended (listed_in k b.plan listed) in
-        let (e, there, yes) = one_of (is_end_by b.text k) so.then_events some in
+        let (e, there, holds) = one_of (is_end_by b.text k) so.then_events some in
         let (a, at) = index_of so.then_events e there in
-        let (sender, text) = end_by_is b.text k e yes in
+        let (sender, text) = end_by_is b.text k e holds in
         (a, e, at, sender, text)
 
     -- that is the END that this one cast
@@ -255,9 +256,9 @@ module _ (g : EndableGroup) (lists : StampedLists) (begun : List Begin) (is : Is
 
         back : m.number ≤ cut_field b.text b.plan es m.sender → IsInTheCut (erased lists) b.text b.plan m
         back most =
-            let (a, e, at, yes, counts) = cut_field_is b.text b.plan es m.sender m.number one most in
+            let (a, e, at, holds, counts) = cut_field_is b.text b.plan es m.sender m.number one most in
             let (c, at_c) = has_now a e at in
-            told_is_in_cut b.member c e b.text b.plan m at_c yes one counts
+            told_is_in_cut b.member c e b.text b.plan m at_c holds one counts
 
     pub vector_then : (m : Name) → 1 ≤ m.number → IsInTheCut (erased lists) b.text b.plan m ↔ (m.number ≤ cut_field b.text b.plan so.then_events m.sender)
     vector_then = vector_told so.then_events (λ a e at. (a, at)) (λ a e at. (a, stands_now a e at))
@@ -286,7 +287,7 @@ module _ (g : EndableGroup) (lists : StampedLists) (begun : List Begin) (is : Is
     in_cut_then a f at =
         let both = vector_then (message_of f).name (number_is_one b.member a f (stands_now a f at)) in
         (λ in_cut. le-leb (message_of f).name.number (cut_field b.text b.plan so.then_events (message_of f).name.sender) (both.0 in_cut),
-        λ yes. both.1 (leb-true (message_of f).name.number (cut_field b.text b.plan so.then_events (message_of f).name.sender) yes))
+        λ holds. both.1 (leb-true (message_of f).name.number (cut_field b.text b.plan so.then_events (message_of f).name.sender) holds))
 
     -- what the member was shown
     shown_list : List Event
@@ -311,11 +312,11 @@ module _ (g : EndableGroup) (lists : StampedLists) (begun : List Begin) (is : Is
             by_part f (inr rest) =
                 let at : slice_get (filter (is_in_cut b.text b.plan so.then_events) (behind_end g.plan_in so.then_events)) rest.0 ≡ Some f =
                 ap (λ (es : List Event). slice_get es rest.0) (sym so.shown) ∙ rest.2 in
-                let (yes, in_behind) = filter_in (is_in_cut b.text b.plan so.then_events) (behind_end g.plan_in so.then_events) f
+                let (holds, in_behind) = filter_in (is_in_cut b.text b.plan so.then_events) (behind_end g.plan_in so.then_events) f
                 (in_by_index (filter (is_in_cut b.text b.plan so.then_events) (behind_end g.plan_in so.then_events)) rest.0 f at) in
                 let (j, at_j) = index_of (behind_end g.plan_in so.then_events) f in_behind in
                 let (a, stood) = behind_stands g.plan_in so.then_events j f at_j in
-                (in_cut_then a f stood).1 yes
+                (in_cut_then a f stood).1 holds
 
         has_it : (l : List Event) (f : Event) → IsIn f l → (message_of f).name ≡ m → Has (without_times l) m
         has_it l f there_f name =
@@ -327,14 +328,14 @@ module _ (g : EndableGroup) (lists : StampedLists) (begun : List Begin) (is : Is
             let (i, f, at, name) = cut_stood m in_cut in
             let parts : IsIn f (upto_end g.plan_in so.then_events ++ behind_end g.plan_in so.then_events) =
             subst (IsIn f) (cut_at_end g.plan_in so.then_events) (in_by_index so.then_events i f at) in
-            let yes : is_in_cut b.text b.plan so.then_events f ≡ true =
+            let holds : is_in_cut b.text b.plan so.then_events f ≡ true =
             (in_cut_then i f at).0 (subst (IsInTheCut (erased lists) b.text b.plan) (sym name) in_cut) in
             has_it (upto_end g.plan_in (lists b.member) ++ b.shown) f
             (elim (in_append f (upto_end g.plan_in so.then_events) (behind_end g.plan_in so.then_events) parts) [
               | inl first ↦ in_front f (upto_end g.plan_in (lists b.member)) b.shown (subst (IsIn f) (sym upto_now) first)
               | inr rest ↦
                   in_back f (upto_end g.plan_in (lists b.member)) b.shown
-                  (subst (IsIn f) (sym so.shown) (in_filter (is_in_cut b.text b.plan so.then_events) (behind_end g.plan_in so.then_events) f yes rest))
+                  (subst (IsIn f) (sym so.shown) (in_filter (is_in_cut b.text b.plan so.then_events) (behind_end g.plan_in so.then_events) f holds rest))
             ])
             name
 
@@ -407,8 +408,8 @@ module _ (g : EndableGroup) (lists : StampedLists) (begun : List Begin) (is : Is
       each_of (λ q. not (nat_lt b.plan.number q.number) || is_passed (take n begun) b.text b.plan q) (own_plans g.plan_in (so n b at_b).then_events) c.plan
       (asks n b at_b).passed own in
       let heard : is_passed (take n begun) b.text b.plan c.plan ≡ true = is_heard passed in
-      let (d, there, yes) = one_of (λ (d : Begin). bytes_eq b.text d.text && is_listed d.member b.plan && is_listed d.member c.plan) (take n begun) heard in
-      let two = and_parts (bytes_eq b.text d.text && is_listed d.member b.plan) (is_listed d.member c.plan) yes in
+      let (d, there, holds) = one_of (λ (d : Begin). bytes_eq b.text d.text && is_listed d.member b.plan && is_listed d.member c.plan) (take n begun) heard in
+      let two = and_parts (bytes_eq b.text d.text && is_listed d.member b.plan) (is_listed d.member c.plan) holds in
       let one = and_parts (bytes_eq b.text d.text) (is_listed d.member b.plan) two.0 in
       let (k, less, at_d) = among_first n d there in
       let plans : Some b.plan ≡ Some d.plan = sym (so n b at_b).read ∙ ap g.plan_in (same_text b.text d.text one.0) ∙ (so k d at_d).read in
@@ -472,10 +473,10 @@ module _ (g : EndableGroup) (lists : StampedLists) (begun : List Begin) (is : Is
       begun_before : (n m : ℕ) (b c : Begin) → slice_get begun n ≡ Some b → slice_get begun m ≡ Some c → n < m → b.member ≡ c.member → ⊥
       begun_before n m b c at_b at_c less same =
           let there : IsIn b (take m begun) = in_by_index (take m begun) n b (get_take_from begun m n less ∙ at_b) in
-          let yes : has_begun (take m begun) c.member ≡ true =
+          let holds : has_begun (take m begun) c.member ≡ true =
           any_of (λ (d : Begin). eqb d.member c.member) (take m begun) b there (eq-eqb b.member c.member same) in
-          let no : has_begun (take m begun) c.member ≡ false = (asks m c at_c).first in
-          both_ways (has_begun (take m begun) c.member) no yes
+          let fails : has_begun (take m begun) c.member ≡ false = (asks m c at_c).first in
+          both_ways (has_begun (take m begun) c.member) fails holds
 
   -- so what it was shown at its begin is all that it was shown behind its END
   pub shown_at_its_begin : (n : ℕ) (b : Begin) → slice_get begun n ≡ Some b
@@ -495,17 +496,17 @@ module _ (g : EndableGroup) (lists : StampedLists) (begun : List Begin) (is : Is
 
     kept_is : (m : Name) → 1 ≤ m.number → kept m ≡ true → IsInTheCut (erased lists) b.text b.plan m
     unfolding kept
-    kept_is m one yes = (vector_now n b at_b m one).1 (leb-true m.number (cut_field b.text b.plan (lists b.member) m.sender) yes)
+    kept_is m one holds = (vector_now n b at_b m one).1 (leb-true m.number (cut_field b.text b.plan (lists b.member) m.sender) holds)
 
     is_kept : (m : Name) → 1 ≤ m.number → IsInTheCut (erased lists) b.text b.plan m → kept m ≡ true
     unfolding kept
     is_kept m one in_cut = le-leb m.number (cut_field b.text b.plan (lists b.member) m.sender) ((vector_now n b at_b m one).0 in_cut)
 
     cut_is_closed : IsClosedPart kept (erased lists)
-    cut_is_closed earlier later h yes =
+    cut_is_closed earlier later h holds =
         let one_earlier : 1 ≤ earlier.number = cast_number (erased lists) regular.sound h.from earlier h.cast_earlier in
         let one_later : 1 ≤ later.number = cast_number (erased lists) regular.sound h.to later h.cast_later in
-        let in_cut : IsInTheCut (erased lists) b.text b.plan later = kept_is later one_later yes in
+        let in_cut : IsInTheCut (erased lists) b.text b.plan later = kept_is later one_later holds in
         is_kept earlier one_earlier (record {
           member = in_cut.member;
           listed = in_cut.listed;
@@ -549,8 +550,8 @@ module _ (g : EndableGroup) (lists : StampedLists) (begun : List Begin) (is : Is
             is_kept (name_of (without_time e)) (one_of_event a e at) (subst (IsInTheCut (erased lists) b.text b.plan) (sym (name_stays e)) (to_b (message_of e).name in_cut))
 
         kept_to : (a : ℕ) (e : Event) → slice_get (lists c.member) a ≡ Some e → kept (name_of (without_time e)) ≡ true → IsInTheCut (erased lists) c.text c.plan (message_of e).name
-        kept_to a e at yes =
-            to_c (message_of e).name (subst (IsInTheCut (erased lists) b.text b.plan) (name_stays e) (kept_is (name_of (without_time e)) (one_of_event a e at) yes))
+        kept_to a e at holds =
+            to_c (message_of e).name (subst (IsInTheCut (erased lists) b.text b.plan) (name_stays e) (kept_is (name_of (without_time e)) (one_of_event a e at) holds))
 
         first : filter (λ e. kept (name_of (without_time e))) (upto_end g.plan_in (so m c at_c).then_events) ≡ upto_end g.plan_in (so m c at_c).then_events
         first = filter_all (λ e. kept (name_of (without_time e))) (upto_end g.plan_in (so m c at_c).then_events) (λ a e at.
@@ -561,8 +562,8 @@ module _ (g : EndableGroup) (lists : StampedLists) (begun : List Begin) (is : Is
         middle = filter_same_on (λ e. kept (name_of (without_time e))) (is_in_cut c.text c.plan (so m c at_c).then_events) (behind_end g.plan_in (so m c at_c).then_events) (λ a e at.
             let (i, stood) = behind_stands g.plan_in (so m c at_c).then_events a e at in
             alike (kept (name_of (without_time e))) (is_in_cut c.text c.plan (so m c at_c).then_events e)
-            (λ yes. (in_cut_then m c at_c i e stood).0 (kept_to i e (stands_now m c at_c i e stood) yes))
-            (λ yes. kept_from i e (stands_now m c at_c i e stood) ((in_cut_then m c at_c i e stood).1 yes))) ∙ sym (so m c at_c).shown
+            (λ holds. (in_cut_then m c at_c i e stood).0 (kept_to i e (stands_now m c at_c i e stood) holds))
+            (λ holds. kept_from i e (stands_now m c at_c i e stood) ((in_cut_then m c at_c i e stood).1 holds))) ∙ sym (so m c at_c).shown
           where
             alike : (p q : Bool) → (p ≡ true → q ≡ true) → (q ≡ true → p ≡ true) → p ≡ q
             alike true q there back = sym (there refl)
@@ -572,16 +573,16 @@ module _ (g : EndableGroup) (lists : StampedLists) (begun : List Begin) (is : Is
         last : filter (λ e. kept (name_of (without_time e))) (so m c at_c).more ≡ []
         last = filter_none (λ e. kept (name_of (without_time e))) (so m c at_c).more (λ j e at.
             elim (cases_Bool (kept (name_of (without_time e)))) [
-              | inl yes ↦ absurd (beyond j e at yes)
-              | inr no ↦ no
+              | inl holds ↦ absurd (beyond j e at holds)
+              | inr fails ↦ fails
             ])
           where
             beyond : (j : ℕ) (e : Event) → slice_get (so m c at_c).more j ≡ Some e → kept (name_of (without_time e)) ≡ true → ⊥
-            beyond j e at yes =
+            beyond j e at holds =
                 let at_now : slice_get (lists c.member) (length (so m c at_c).then_events + j) ≡ Some e =
                 ap (λ (es : List Event). slice_get es (length (so m c at_c).then_events + j)) (so m c at_c).goes_on
                 ∙ get_right (so m c at_c).then_events (so m c at_c).more j ∙ at in
-                let in_cut : IsInTheCut (erased lists) c.text c.plan (message_of e).name = kept_to (length (so m c at_c).then_events + j) e at_now yes in
+                let in_cut : IsInTheCut (erased lists) c.text c.plan (message_of e).name = kept_to (length (so m c at_c).then_events + j) e at_now holds in
                 let (i, f, stood, name) = cut_stood m c at_c (message_of e).name in_cut in
                 let less : i < length (so m c at_c).then_events = slice_get_within (so m c at_c).then_events i f stood in
                 let one : i ≡ length (so m c at_c).then_events + j =

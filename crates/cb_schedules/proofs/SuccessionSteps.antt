@@ -24,7 +24,8 @@ use Rattle.cb_history.specs.Events.{events}
 use Rattle.cb_history.specs.Facts.{EntryFields, CastEntry, Fact, OwnCast, cast_said, facts_of, messages_in}
 use Rattle.cb_history.specs.LegalFacts.{AreFactsOf}
 use Rattle.cb_history.specs.Legal.{ToCast, cast_entry, and_entry, history_after}
-use Rattle.cb_history.specs.Answers.{own_casts, next_cast, is_too_many, is_full, cast_answer}
+use Rattle.cb_history.specs.Known.{stable}
+use Rattle.cb_history.specs.Answers.{delivered, own_casts, next_cast, is_too_many, is_full, cast_answer}
 use Rattle.cb_history.specs.Group.{Identity}
 use Rattle.cb_history.specs.View.{view}
 use Rattle.cb_history.proofs.Views.{IsIn}
@@ -210,8 +211,8 @@ turn_ends plan_in es more sender n text plan turn casts read further = record { 
 
     above : (a : ℕ) (x : Message) (q : Plan) → slice_get es a ≡ Some (Cast x) → plan_in x.payload ≡ Some q → q.number < plan.number
     above a x q at is_q =
-        let yes : goes_further plan q ≡ true = each_of (goes_further plan) (own_plans plan_in es) q further (plan_is_own plan_in es a x q at is_q) in
-        ltb-true q.number plan.number (and_parts (nat_lt q.number plan.number) (list_all (λ k. is_listed k q) plan.list) yes).0
+        let holds : goes_further plan q ≡ true = each_of (goes_further plan) (own_plans plan_in es) q further (plan_is_own plan_in es a x q at is_q) in
+        ltb-true q.number plan.number (and_parts (nat_lt q.number plan.number) (list_all (λ k. is_listed k q) plan.list) holds).0
 
     in_turn : (a b : ℕ) (x y : Message) (q : Plan) → a < b → slice_get (es ++ more) a ≡ Some (Cast x) → slice_get (es ++ more) b ≡ Some (Cast y)
         → plan_in x.payload ≡ Some q → (later : Plan) × (plan_in y.payload ≡ Some later) × (q.number < later.number)
@@ -241,6 +242,46 @@ began_stays g es more before b so none = record {
   may = so.may;
   shown = so.shown;
 }
+
+-- ---- what is allowed
+
+-- what a cast that is no END asks for
+pub record AsksToTalk (g : EndableGroup) (s : GroupState) (i : ℕ) (load : Load) : Type 0 where
+  pub talk : list_all (λ payload. is_none (g.plan_in payload)) (payloads_of load) ≡ true
+  pub quiet : list_all (λ e. is_none (own_plan g.plan_in e)) (stamped_lists g.setting s i) ≡ true
+  pub room : nat_le (delivered (seat_at g.setting i) (facts_at s i) i + length (payloads_of load) + g.kept)
+      (stable (seat_at g.setting i) (facts_at s i) + g.setting.group.window) ≡ true
+
+pub may_talk_asks : (g : EndableGroup) (s : GroupState) (i : ℕ) (load : Load) → may_talk g s i load ≡ true → AsksToTalk g s i load
+may_talk_asks g s i load may = four
+    (list_all (λ payload. is_none (g.plan_in payload)) (payloads_of load)) (list_all (λ e. is_none (own_plan g.plan_in e)) (stamped_lists g.setting s i))
+    (list_all (λ e. not (leaves_out i (g.plan_in (message_of e).payload))) (stamped_lists g.setting s i))
+    (nat_le (delivered (seat_at g.setting i) (facts_at s i) i + length (payloads_of load) + g.kept) (stable (seat_at g.setting i) (facts_at s i) + g.setting.group.window))
+    (λ talk quiet room. record { talk = talk; quiet = quiet; room = room }) may
+  where
+    four : (a b c d : Bool) → (a ≡ true → b ≡ true → d ≡ true → AsksToTalk g s i load) → (a && b && c && d) ≡ true → AsksToTalk g s i load
+    four a b c d make all =
+        let three = and_parts (a && b && c) d all in
+        let two = and_parts (a && b) c three.0 in
+        let one = and_parts a b two.0 in
+        make one.0 one.1 three.1
+
+-- and what an END asks for
+pub record AsksToEnd (g : EndableGroup) (begun : List Begin) (es : List Event) (i : ℕ) (plan : Plan) : Type 0 where
+  pub first : has_begun begun i ≡ false
+  pub listed : is_listed i plan ≡ true
+  pub further : list_all (goes_further plan) (own_plans g.plan_in es) ≡ true
+
+pub may_end_asks : (g : EndableGroup) (begun : List Begin) (es : List Event) (i : ℕ) (plan : Plan) → may_end g begun es i plan ≡ true → AsksToEnd g begun es i plan
+may_end_asks g begun es i plan may = four
+    (has_begun begun i) (is_listed i plan) (nat_lt g.setting.group.number plan.number) (list_all (goes_further plan) (own_plans g.plan_in es))
+    (λ first listed further. record { first = first; listed = listed; further = further }) may
+  where
+    four : (a b c d : Bool) → (a ≡ false → b ≡ true → d ≡ true → AsksToEnd g begun es i plan) → (not a && b && c && d) ≡ true → AsksToEnd g begun es i plan
+    four true b c d make all = absurd (cc)
+    four false b c d make all =
+        let three = and_parts (b && c) d all in
+        make refl (and_parts b c three.0).0 three.1
 
 -- ---- one step
 
@@ -321,7 +362,7 @@ module _ (g : EndableGroup) (endable : IsEndable g) (t : SuccessionState) (so : 
     cast_step = and_goes_on (CastStep i load) (λ k. by_own k (cast_step_adds g.setting endable.is_setting t.group so.consistent i load k))
 
   -- a member that has begun has an own END
-  began_has_ended : (n : ℕ) (b : Begin) → slice_get t.begun n ≡ Some b
+  pub began_has_ended : (n : ℕ) (b : Begin) → slice_get t.begun n ≡ Some b
       → (a : ℕ) × (x : Message) × (slice_get (stamped_lists g.setting t.group b.member) a ≡ Some (Cast x)) × (g.plan_in x.payload ≡ Some b.plan)
   began_has_ended n b at =
       let (a, x, stood, text) = own_end g (stamped_lists g.setting t.group) t.begun so.succeeding n b at in
@@ -330,25 +371,18 @@ module _ (g : EndableGroup) (endable : IsEndable g) (t : SuccessionState) (so : 
   talks : (i : ℕ) (load : Load) → may_talk g t.group i load ≡ true → SuccessionSo g (and_happens g t (CastStep i load))
   talks i load may =
       cast_step i load
-      (λ more sender n casts. turn_talks g.plan_in (stamped_lists g.setting t.group i) more sender n (payloads_of load) casts one.0 one.1)
+      (λ more sender n casts. turn_talks g.plan_in (stamped_lists g.setting t.group i) more sender n (payloads_of load) casts one.talk one.quiet)
       (λ n b at same. by_end n b at same (began_has_ended n b at))
     where
-      three : _
-      three = and_parts (list_all (λ payload. is_none (g.plan_in payload)) (payloads_of load) && list_all (λ e. is_none (own_plan g.plan_in e)) (stamped_lists g.setting t.group i)
-          && list_all (λ e. not (leaves_out i (g.plan_in (message_of e).payload))) (stamped_lists g.setting t.group i)) _ may
-
-      two : _
-      two = and_parts (list_all (λ payload. is_none (g.plan_in payload)) (payloads_of load) && list_all (λ e. is_none (own_plan g.plan_in e)) (stamped_lists g.setting t.group i)) _ three.0
-
-      one : (list_all (λ payload. is_none (g.plan_in payload)) (payloads_of load) ≡ true) × (list_all (λ e. is_none (own_plan g.plan_in e)) (stamped_lists g.setting t.group i) ≡ true)
-      one = and_parts (list_all (λ payload. is_none (g.plan_in payload)) (payloads_of load)) _ two.0
+      one : AsksToTalk g t.group i load
+      one = may_talk_asks g t.group i load may
 
       by_end : (n : ℕ) (b : Begin) → slice_get t.begun n ≡ Some b → b.member ≡ i
           → ((a : ℕ) × (x : Message) × (slice_get (stamped_lists g.setting t.group b.member) a ≡ Some (Cast x)) × (g.plan_in x.payload ≡ Some b.plan)) → ⊥
       by_end n b at same (a, x, stands, read) =
           let here : slice_get (stamped_lists g.setting t.group i) a ≡ Some (Cast x) = subst (λ (j : ℕ). slice_get (stamped_lists g.setting t.group j) a ≡ Some (Cast x)) same stands in
           let none : is_none (g.plan_in x.payload) ≡ true =
-          each_of (λ e. is_none (own_plan g.plan_in e)) (stamped_lists g.setting t.group i) (Cast x) one.1 (in_by_index (stamped_lists g.setting t.group i) a (Cast x) here) in
+          each_of (λ e. is_none (own_plan g.plan_in e)) (stamped_lists g.setting t.group i) (Cast x) one.quiet (in_by_index (stamped_lists g.setting t.group i) a (Cast x) here) in
           let some : is_none (Some b.plan) ≡ true = ap is_none (sym read) ∙ none in
           cc
 
@@ -356,18 +390,11 @@ module _ (g : EndableGroup) (endable : IsEndable g) (t : SuccessionState) (so : 
       → SuccessionSo g (and_happens g t (CastStep i (One text)))
   ends_by i text plan read may =
       cast_step i (One text)
-      (λ more sender n casts. turn_ends g.plan_in (stamped_lists g.setting t.group i) more sender n text plan (so.succeeding.ends i) casts read three.1)
-      (λ n b at same. both_ways (has_begun t.begun i) (is_false (has_begun t.begun i) first) (any_of (λ (c : Begin). eqb c.member i) t.begun b (in_by_index t.begun n b at) (eq-eqb b.member i same)))
+      (λ more sender n casts. turn_ends g.plan_in (stamped_lists g.setting t.group i) more sender n text plan (so.succeeding.ends i) casts read asks_for.further)
+      (λ n b at same. both_ways (has_begun t.begun i) asks_for.first (any_of (λ (c : Begin). eqb c.member i) t.begun b (in_by_index t.begun n b at) (eq-eqb b.member i same)))
     where
-      three : (_ ≡ true) × (list_all (goes_further plan) (own_plans g.plan_in (stamped_lists g.setting t.group i)) ≡ true)
-      three = and_parts (not (has_begun t.begun i) && is_listed i plan && nat_lt g.setting.group.number plan.number) _ may
-
-      first : not (has_begun t.begun i) ≡ true
-      first = (and_parts (not (has_begun t.begun i)) (is_listed i plan) (and_parts (not (has_begun t.begun i) && is_listed i plan) (nat_lt g.setting.group.number plan.number) three.0).0).0
-
-      is_false : (b : Bool) → not b ≡ true → b ≡ false
-      is_false true e = absurd (cc)
-      is_false false e = refl
+      asks_for : AsksToEnd g t.begun (stamped_lists g.setting t.group i) i plan
+      asks_for = may_end_asks g t.begun (stamped_lists g.setting t.group i) i plan may
 
   begins_by : (i : ℕ) (text : List ℕ) (plan : Plan) → g.plan_in text ≡ Some plan → may_begin g t.begun (stamped_lists g.setting t.group i) i text plan ≡ true
       → SuccessionSo g (record { group = t.group; begun = t.begun ++ record { member = i; text = text; plan = plan; shown = shown_at_begin g (stamped_lists g.setting t.group i) text plan } ∷ [] })

@@ -21,7 +21,7 @@ use Rattle.cb_schedules.specs.Messages.{stamped_lists, causal_lists}
 use Rattle.cb_schedules.specs.Succession.{Plan, Reading, EndableGroup, IsEndable, is_own_end, upto_end, cut_field, Begin, may_talk, may_end, may_begin, shown_at_begin, the_rules, SuccessionStep, Happens, Ends, Begins, SuccessionState, and_happens, and_ends, and_begins, succession_step, succession_from, nobody_yet, succession, shown}
 use Rattle.cb_schedules.specs.SuccessionLaws.{EachSuccession, HasBegun, HasBeenShown, HasEnded, IsInTheCut, ExactlyTheCutIsShown, TheSameIsShown, EndsBy, WhatWasShownIsInTheCut, CastsAreInTheCut, TheCutIsOneVector, cut_told, lists_at_the_cut, TheCutIsCausal, ShownListsGoOn, NobodyBeginsByALaterPlan, OneNumberHasOneText, AreInEveryList, TheLastListGoesOneWay, TheCutIsDelivered}
 use Rattle.cb_schedules.proofs.Courses.{step_goes_on}
-use Rattle.cb_schedules.proofs.EndLists.{upto_stays, upto_all, is_end, filter_none, same_text}
+use Rattle.cb_schedules.proofs.EndLists.{upto_stays, upto_all, is_end, filter_none, none_passes, same_text}
 use Rattle.cb_schedules.proofs.Lists.{index_of, in_by_index}
 use Rattle.cb_schedules.proofs.SuccessionLaws.{IsSucceeding, shown_is_the_cut, shown_before_is_in_cut, casts_are_in_cut, vector_now, cut_is_a_run, shown_at_its_begin, nobody_by_a_later_plan, one_number_one_text, one_way, cut_is_had}
 use Rattle.cb_schedules.proofs.SuccessionSteps.{SuccessionSo, step_is_so, successions_are_so, began_has_ended}
@@ -71,8 +71,8 @@ module _ (g : EndableGroup) (t : SuccessionState) (endable : IsEndable g) (so : 
           × (lists_at_the_cut g t b k ≡ without_times (upto_end g.plan_in (stamped_lists g.setting t.group k) ++ c.shown)))
       each k =
           elim (cases_Bool (list_any (λ c. eqb c.member k && bytes_eq b.text c.text) t.begun)) [
-            | inl yes ↦
-                let (c, there, passes) = one_of (λ (c : Begin). eqb c.member k && bytes_eq b.text c.text) t.begun yes in
+            | inl holds ↦
+                let (c, there, passes) = one_of (λ (c : Begin). eqb c.member k && bytes_eq b.text c.text) t.begun holds in
                 let (m, at_c) = index_of t.begun c there in
                 let both = and_parts (eqb c.member k) (bytes_eq b.text c.text) passes in
                 let member : c.member ≡ k = eqb-true c.member k both.0 in
@@ -80,8 +80,8 @@ module _ (g : EndableGroup) (t : SuccessionState) (endable : IsEndable g) (so : 
                 subst (λ (j : ℕ). flat_map (λ (d : Begin). d.shown) (filter (λ (d : Begin). eqb d.member j) t.begun) ≡ c.shown) member
                 (shown_at_its_begin g (stamped_lists g.setting t.group) t.begun so.succeeding m c at_c) in
                 inr (m, c, at_c, member, same_text b.text c.text both.1,
-                rw yes (ap (λ (es : List Event). without_times (upto_end g.plan_in (stamped_lists g.setting t.group k) ++ es)) its))
-            | inr no ↦ inl (rw no refl)
+                rw holds (ap (λ (es : List Event). without_times (upto_end g.plan_in (stamped_lists g.setting t.group k) ++ es)) its))
+            | inr fails ↦ inl (rw fails refl)
           ]
 
   pub the_cut_is_delivered : TheCutIsDelivered g t
@@ -117,9 +117,9 @@ module _ (g : EndableGroup) (endable : IsEndable g) (t : SuccessionState) (so : 
       ap (flat_map (λ (b : Begin). b.shown)) (filter_none (λ (b : Begin). eqb b.member i) t.begun (λ n b at. by_test n b at (cases_Bool (eqb b.member i))))
     where
       by_test : (n : ℕ) (b : Begin) → slice_get t.begun n ≡ Some b → (eqb b.member i ≡ true) ⊎ (eqb b.member i ≡ false) → eqb b.member i ≡ false
-      by_test n b at (inr no) = no
-      by_test n b at (inl yes) =
-          let same : b.member ≡ i = eqb-true b.member i yes in
+      by_test n b at (inr fails) = fails
+      by_test n b at (inl holds) =
+          let same : b.member ≡ i = eqb-true b.member i holds in
           let (a, x, stands, read) = began_has_ended g endable t so n b at in
           let here : slice_get (stamped_lists g.setting t.group i) a ≡ Some (Cast x) = subst (λ (j : ℕ). slice_get (stamped_lists g.setting t.group j) a ≡ Some (Cast x)) same stands in
           let is : is_own_end g.plan_in (Cast x) ≡ true = is_end g.plan_in x b.plan read in
@@ -132,13 +132,13 @@ module _ (g : EndableGroup) (endable : IsEndable g) (t : SuccessionState) (so : 
       (step_goes_on g.setting endable.is_setting t.group so.consistent step).1 i in
       elim (cases_Bool (list_any (is_own_end g.plan_in) (stamped_lists g.setting t.group i))) [
         | inl some ↦
-            let (e, there, yes) = one_of (is_own_end g.plan_in) (stamped_lists g.setting t.group i) some in
+            let (e, there, holds) = one_of (is_own_end g.plan_in) (stamped_lists g.setting t.group i) some in
             let (a, at) = index_of (stamped_lists g.setting t.group i) e there in
-            ([], ap (λ (es : List Event). es ++ its_begins) (ap (upto_end g.plan_in) is ∙ upto_stays g.plan_in (stamped_lists g.setting t.group i) more a e at yes)
+            ([], ap (λ (es : List Event). es ++ its_begins) (ap (upto_end g.plan_in) is ∙ upto_stays g.plan_in (stamped_lists g.setting t.group i) more a e at holds)
             ∙ sym (append-nil (shown g t i)))
         | inr none ↦
             let no_end : (a : ℕ) (e : Event) → slice_get (stamped_lists g.setting t.group i) a ≡ Some e → is_own_end g.plan_in e ≡ false =
-            λ a e at. none_there (stamped_lists g.setting t.group i) none a e at in
+            λ a e at. none_passes (is_own_end g.plan_in) (stamped_lists g.setting t.group i) none a e at in
             let nothing = no_end_no_begin no_end in
             let before : shown g t i ≡ stamped_lists g.setting t.group i =
             ap (λ (es : List Event). upto_end g.plan_in (stamped_lists g.setting t.group i) ++ es) nothing ∙ append-nil (upto_end g.plan_in (stamped_lists g.setting t.group i))
@@ -148,15 +148,6 @@ module _ (g : EndableGroup) (endable : IsEndable g) (t : SuccessionState) (so : 
             ∙ ap (upto_end g.plan_in) is ∙ upto_all g.plan_in (stamped_lists g.setting t.group i) more no_end
             ∙ ap (λ (es : List Event). es ++ upto_end g.plan_in more) (sym before))
       ]
-    where
-      none_there : (es : List Event) → list_any (is_own_end g.plan_in) es ≡ false → (a : ℕ) (e : Event) → slice_get es a ≡ Some e → is_own_end g.plan_in e ≡ false
-      none_there [] none a e at = absurd (cc)
-      none_there (x ∷ es) none a e at = by_first a (is_own_end g.plan_in x) refl none at
-        where
-          by_first : (a : ℕ) (b : Bool) → is_own_end g.plan_in x ≡ b → (cond b true (list_any (is_own_end g.plan_in) es)) ≡ false → slice_get (x ∷ es) a ≡ Some e → is_own_end g.plan_in e ≡ false
-          by_first a true is none at = absurd (cc)
-          by_first zero false is none at = let one : x ≡ e = cc in ap (is_own_end g.plan_in) (sym one) ∙ is
-          by_first (suc a) false is none at = none_there es none a e at
 
   begin_goes_on : (b : Begin) → (more : List Event) × (shown g (record { group = t.group; begun = t.begun ++ b ∷ [] }) i ≡ shown g t i ++ more)
   begin_goes_on b = (
