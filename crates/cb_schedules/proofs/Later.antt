@@ -69,7 +69,7 @@ later_joins s t u first second = record {
 
 -- ---- a step
 
-abbrev IsNoCast : Call → Type 0
+abbrev pub IsNoCast : Call → Type 0
 IsNoCast (ToCast load) = ⊥
 IsNoCast (ToTake bytes) = Unit {0}
 IsNoCast ToTick = Unit {0}
@@ -109,7 +109,7 @@ tick_adds entries status (Ok t) =
     (λ _. one_entry entries (TickEntry status) (status_is_no_cast (frame_read status))) (λ _. same_facts (facts_of entries) (facts_of entries) refl)
 tick_adds entries status (Err refusal) = same_facts (facts_of entries) (facts_of entries) refl
 
-call_adds : (seat : Identity) (limit : ℕ) (entries : List EntryFields) (call : Call) → IsNoCast call → MoreFacts (facts_of entries) (facts_of (history_after seat limit entries call))
+pub call_adds : (seat : Identity) (limit : ℕ) (entries : List EntryFields) (call : Call) → IsNoCast call → MoreFacts (facts_of entries) (facts_of (history_after seat limit entries call))
 call_adds seat limit entries (ToCast load) none = absurd none
 call_adds seat limit entries (ToTake bytes) none = arrival_adds entries bytes (arrive_answer seat limit entries bytes)
 call_adds seat limit entries ToTick none = tick_adds entries _ (tick_answer seat limit entries)

@@ -58,3 +58,4 @@ pub mod Successions
 pub mod SuccessionRows
 pub mod EndsHaveRoom
 pub mod SuccessionRounds
+pub mod SuccessionRestarts

@@ -174,7 +174,7 @@ module _ (g : EndableGroup) (lists : StampedLists) (begun : List Begin) (is : Is
   -- ---- one who has begun
 
   module _ (n : ℕ) (b : Begin) (at_b : slice_get begun n ≡ Some b) where
-    pub so : BeganSo g (lists b.member) (take n begun) b
+    abbrev pub so : BeganSo g (lists b.member) (take n begun) b
     so = is.begins n b at_b
 
     pub asks : MayBegin g (take n begun) so.then_events b.member b.text b.plan
@@ -388,6 +388,11 @@ module _ (g : EndableGroup) (lists : StampedLists) (begun : List Begin) (is : Is
       let (a, e, at_e, sender, text) = had_end n c at k listed in
       let (i, cast) = cast_at_sender g.setting.group.size lists is.run c.member a e (stands_now n c at a e at_e) in
       (i, message_of e, subst (λ (l : ℕ). slice_get (lists l) i ≡ Some (Cast (message_of e))) sender cast, text)
+
+  pub listed_has_ended : (n : ℕ) (c : Begin) → slice_get begun n ≡ Some c → (k : ℕ) → is_listed k c.plan ≡ true → HasEnded (erased lists) k c.text
+  listed_has_ended n c at k listed =
+      let (a, x, stands, text) = end_of_listed n c at k listed in
+      record { index = a; name = x.name; stands = stands_erased k a (Cast x) stands ∙ ap (λ (p : List ℕ). Some (causal.Cast x.name p)) text }
 
   -- a begin among the first ones
   among_first : (n : ℕ) (d : Begin) → IsIn d (take n begun) → (m : ℕ) × (m < n) × (slice_get begun m ≡ Some d)

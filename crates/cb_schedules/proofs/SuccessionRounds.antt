@@ -112,7 +112,7 @@ quiet_events setting is s inv (step ∷ steps) none k =
     let later : MoreFacts (facts_at s k) (facts_at (step_after setting s step) k) = (step_is_later setting s step none.0).facts k in
     let own : own_casts (facts_at (step_after setting s step) k) ≡ own_casts (facts_at s k) ++ [] =
     ap own_casts later.is ∙ own_casts-append (facts_at s k) later.more ∙ ap (λ (cs : List _). own_casts (facts_at s k) ++ cs) later.none_own in
-    let (first, is_first, no_first) = more_casts setting is s (step_after setting s step) inv goes.0 goes.1 k [] own in
+    let (first, is_first, no_first) = more_casts setting s (step_after setting s step) inv goes.0 goes.1 k [] own in
     let (rest, is_rest, no_rest) = quiet_events setting is (step_after setting s step) goes.0 steps none.1 k in
     (first ++ rest, is_rest ∙ ap (λ (es : List Event). es ++ rest) is_first ∙ append_assoc (stamped_lists setting s k) first rest,
     casts_of_both first rest ∙ ap (λ (cs : List Carried). cs ++ casts_among rest) no_first ∙ no_rest)

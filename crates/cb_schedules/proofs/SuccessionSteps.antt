@@ -64,7 +64,7 @@ bytes_are (b ∷ bytes) all zero = ltb-true b 256 (and_parts (ltb b 256) (are_by
 bytes_are (b ∷ bytes) all (suc i) = bytes_are bytes (and_parts (ltb b 256) (are_bytes bytes) all).1 i
 
 module _ (setting : Setting) (is : IsSetting setting) (s : GroupState) (inv : IsConsistent setting s) where
-  cast_adds : (i : ℕ) (load : Load) → i < setting.group.size
+  pub cast_adds : (i : ℕ) (load : Load) → i < setting.group.size
       → OwnMore setting s i load i (facts_at s i) (facts_of (history_after (seat_at setting i) setting.limit (s.histories i) (ToCast load)))
   unfolding cast_answer
   cast_adds i load lt =
@@ -130,28 +130,31 @@ nothing_seen : (seat : Identity) → casts_among (events seat []) ≡ []
 unfolding view
 nothing_seen seat = refl
 
-module _ (setting : Setting) (is : IsSetting setting) (s after : GroupState) (inv : IsConsistent setting s) (inv_after : IsConsistent setting after)
-    (extends : Extends (StampedStep setting.group.size) (stamped_lists setting s) (stamped_lists setting after)) where
-  -- the casts among a member's events are its own messages
-  casts_own : (t : GroupState) → IsConsistent setting t → (k : ℕ) → casts_among (stamped_lists setting t k) ≡ messages_in (own_casts (facts_at t k))
-  casts_own t so k =
-      elim (cases_lt k setting.group.size) [
-        | inl lt ↦ events_cast_the_own (seat_at setting k) (facts_at t k) (so.together.legal k lt)
-        | inr past ↦
-            let none : facts_at t k ≡ [] = so.together.nobody k past in
-            subst (λ (fs : List Fact). casts_among (events (seat_at setting k) fs) ≡ messages_in (own_casts fs)) (sym none) (nothing_seen (seat_at setting k))
-      ]
+-- the casts among a member's events are its own messages
+casts_own : (setting : Setting) (t : GroupState) → IsConsistent setting t → (k : ℕ) → casts_among (stamped_lists setting t k) ≡ messages_in (own_casts (facts_at t k))
+casts_own setting t so k =
+    elim (cases_lt k setting.group.size) [
+      | inl lt ↦ events_cast_the_own (seat_at setting k) (facts_at t k) (so.together.legal k lt)
+      | inr past ↦
+          let none : facts_at t k ≡ [] = so.together.nobody k past in
+          subst (λ (fs : List Fact). casts_among (events (seat_at setting k) fs) ≡ messages_in (own_casts fs)) (sym none) (nothing_seen (seat_at setting k))
+    ]
 
-  pub more_casts : (k : ℕ) (extra : List CastFields) → own_casts (facts_at after k) ≡ own_casts (facts_at s k) ++ extra
-      → (more : List Event) × (stamped_lists setting after k ≡ stamped_lists setting s k ++ more) × (casts_among more ≡ messages_in extra)
-  more_casts k extra own =
-      let (more, goes_on) = (stamped_extends_runs setting.group.size).beginning (stamped_lists setting s) (stamped_lists setting after) extends k in (
-        more,
-        goes_on,
-        append_cancel_left (casts_among (stamped_lists setting s k)) (casts_among more) (messages_in extra)
-        (sym (casts_of_both (stamped_lists setting s k) more) ∙ ap casts_among (sym goes_on) ∙ casts_own after inv_after k ∙ ap messages_in own
-        ∙ flat_map-append messages_of (own_casts (facts_at s k)) extra ∙ ap (λ (ms : List Carried). ms ++ messages_in extra) (sym (casts_own s inv k))),
-      )
+-- so those among more events are the messages of more own casts
+pub casts_of_more : (setting : Setting) (s after : GroupState) → IsConsistent setting s → IsConsistent setting after → (k : ℕ) (extra : List CastFields) (more : List Event)
+    → stamped_lists setting after k ≡ stamped_lists setting s k ++ more → own_casts (facts_at after k) ≡ own_casts (facts_at s k) ++ extra → casts_among more ≡ messages_in extra
+casts_of_more setting s after inv inv_after k extra more goes_on own =
+    append_cancel_left (casts_among (stamped_lists setting s k)) (casts_among more) (messages_in extra)
+    (sym (casts_of_both (stamped_lists setting s k) more) ∙ ap casts_among (sym goes_on) ∙ casts_own setting after inv_after k ∙ ap messages_in own
+    ∙ flat_map-append messages_of (own_casts (facts_at s k)) extra ∙ ap (λ (ms : List Carried). ms ++ messages_in extra) (sym (casts_own setting s inv k)))
+
+pub more_casts : (setting : Setting) (s after : GroupState) → IsConsistent setting s → IsConsistent setting after
+    → Extends (StampedStep setting.group.size) (stamped_lists setting s) (stamped_lists setting after) → (k : ℕ) (extra : List CastFields)
+    → own_casts (facts_at after k) ≡ own_casts (facts_at s k) ++ extra
+    → (more : List Event) × (stamped_lists setting after k ≡ stamped_lists setting s k ++ more) × (casts_among more ≡ messages_in extra)
+more_casts setting s after inv inv_after extends k extra own =
+    let (more, goes_on) = (stamped_extends_runs setting.group.size).beginning (stamped_lists setting s) (stamped_lists setting after) extends k in
+    (more, goes_on, casts_of_more setting s after inv inv_after k extra more goes_on own)
 
 pub messages_are : (c : CastFields) → messages_of c ≡ numbered c.sender c.number (payloads_of c.load)
 unfolding messages_of
@@ -166,7 +169,7 @@ numbered_says sender n (p ∷ payloads) m (inr later) = inr (numbered_says sende
 -- ---- ENDs in turn
 
 -- no more casts leave it so
-turn_stays : (plan_in : Reading) (es more : List Event) → EndsInTurn plan_in es → casts_among more ≡ [] → EndsInTurn plan_in (es ++ more)
+pub turn_stays : (plan_in : Reading) (es more : List Event) → EndsInTurn plan_in es → casts_among more ≡ [] → EndsInTurn plan_in (es ++ more)
 turn_stays plan_in es more turn none = record { in_turn = in_turn }
   where
     old : (a : ℕ) (x : Message) → slice_get (es ++ more) a ≡ Some (Cast x) → slice_get es a ≡ Some (Cast x)
@@ -181,7 +184,7 @@ turn_stays plan_in es more turn none = record { in_turn = in_turn }
     in_turn a b x y plan less at_x at_y read = turn.in_turn a b x y plan less (old a x at_x) (old b y at_y) read
 
 -- where there is no END yet, casts that are no ENDs leave it so
-turn_talks : (plan_in : Reading) (es more : List Event) (sender n : ℕ) (payloads : List (List ℕ)) → casts_among more ≡ numbered sender n payloads
+pub turn_talks : (plan_in : Reading) (es more : List Event) (sender n : ℕ) (payloads : List (List ℕ)) → casts_among more ≡ numbered sender n payloads
     → list_all (λ payload. is_none (plan_in payload)) payloads ≡ true → list_all (λ e. is_none (own_plan plan_in e)) es ≡ true → EndsInTurn plan_in (es ++ more)
 turn_talks plan_in es more sender n payloads casts talk quiet = record { in_turn = λ a b x y plan less at_x at_y read. absurd (no_end a x plan at_x read) }
   where
@@ -200,7 +203,7 @@ turn_talks plan_in es more sender n payloads casts talk quiet = record { in_turn
         ]
 
 -- and so does one END more, whose plan has a greater number than all before
-turn_ends : (plan_in : Reading) (es more : List Event) (sender n : ℕ) (text : List ℕ) (plan : Plan) → EndsInTurn plan_in es
+pub turn_ends : (plan_in : Reading) (es more : List Event) (sender n : ℕ) (text : List ℕ) (plan : Plan) → EndsInTurn plan_in es
     → casts_among more ≡ numbered sender n (text ∷ []) → plan_in text ≡ Some plan → list_all (goes_further plan) (own_plans plan_in es) ≡ true → EndsInTurn plan_in (es ++ more)
 turn_ends plan_in es more sender n text plan turn casts read further = record { in_turn = in_turn }
   where
@@ -232,7 +235,7 @@ turn_ends plan_in es more sender n text plan turn casts read further = record { 
 -- ---- begins
 
 -- a begin stays so where its member casts nothing more
-began_stays : (g : EndableGroup) (es more : List Event) (before : List Begin) (b : Begin) → BeganSo g es before b → casts_among more ≡ [] → BeganSo g (es ++ more) before b
+abbrev pub began_stays : (g : EndableGroup) (es more : List Event) (before : List Begin) (b : Begin) → BeganSo g es before b → casts_among more ≡ [] → BeganSo g (es ++ more) before b
 began_stays g es more before b so none = record {
   read = so.read;
   then_events = so.then_events;
@@ -312,7 +315,7 @@ module _ (g : EndableGroup) (endable : IsEndable g) (t : SuccessionState) (so : 
   pub more_of : (step : Step) (k : ℕ) (extra : List CastFields) → own_casts (facts_at (step_after g.setting t.group step) k) ≡ own_casts (facts_at t.group k) ++ extra
       → (more : List Event) × (stamped_lists g.setting (step_after g.setting t.group step) k ≡ stamped_lists g.setting t.group k ++ more) × (casts_among more ≡ messages_in extra)
   more_of step k extra own =
-      more_casts g.setting endable.is_setting t.group (step_after g.setting t.group step) so.consistent (step_goes_on g.setting endable.is_setting t.group so.consistent step).0
+      more_casts g.setting t.group (step_after g.setting t.group step) so.consistent (step_goes_on g.setting endable.is_setting t.group so.consistent step).0
       (step_goes_on g.setting endable.is_setting t.group so.consistent step).1 k extra own
 
   -- a member that casts nothing

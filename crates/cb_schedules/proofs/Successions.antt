@@ -19,25 +19,26 @@ use Rattle.cb_history.proofs.Lists.{flat_map-append, one_of}
 use Rattle.cb_schedules.specs.Schedule.{Step, CastStep, ArriveStep, TickStep, HelpStep, step_after}
 use Rattle.cb_schedules.specs.Messages.{stamped_lists, causal_lists}
 use Rattle.cb_schedules.specs.Succession.{Plan, Reading, EndableGroup, IsEndable, is_own_end, upto_end, cut_field, Begin, may_talk, may_end, may_begin, shown_at_begin, the_rules, SuccessionStep, Happens, Ends, Begins, SuccessionState, and_happens, and_ends, and_begins, succession_step, succession_from, nobody_yet, succession, shown}
-use Rattle.cb_schedules.specs.SuccessionLaws.{EachSuccession, HasBegun, HasBeenShown, HasEnded, IsInTheCut, ExactlyTheCutIsShown, TheSameIsShown, EndsBy, WhatWasShownIsInTheCut, CastsAreInTheCut, TheCutIsOneVector, cut_told, lists_at_the_cut, TheCutIsCausal, ShownListsGoOn, NobodyBeginsByALaterPlan, OneNumberHasOneText, AreInEveryList, TheLastListGoesOneWay, TheCutIsDelivered}
+use Rattle.cb_schedules.specs.SuccessionLaws.{EachSuccession, HasBegun, HasBeenShown, HasEnded, IsInTheCut, ExactlyTheCutIsShown, TheSameIsShown, EndsBy, WhatWasShownIsInTheCut, CastsAreInTheCut, TheCutIsOneVector, cut_told, lists_at_the_cut, TheCutIsCausal, ShownListsGoOn, NobodyBeginsByALaterPlan, OneNumberHasOneText, AreInEveryList, TheLastListGoesOneWay, TheCutIsDelivered, WhoIsListedHasEnded}
 use Rattle.cb_schedules.proofs.Courses.{step_goes_on}
 use Rattle.cb_schedules.proofs.EndLists.{upto_stays, upto_all, is_end, filter_none, none_passes, same_text}
 use Rattle.cb_schedules.proofs.Lists.{index_of, in_by_index}
-use Rattle.cb_schedules.proofs.SuccessionLaws.{IsSucceeding, shown_is_the_cut, shown_before_is_in_cut, casts_are_in_cut, vector_now, cut_is_a_run, shown_at_its_begin, nobody_by_a_later_plan, one_number_one_text, one_way, cut_is_had}
+use Rattle.cb_schedules.proofs.SuccessionLaws.{IsSucceeding, shown_is_the_cut, shown_before_is_in_cut, casts_are_in_cut, vector_now, cut_is_a_run, shown_at_its_begin, nobody_by_a_later_plan, one_number_one_text, one_way, cut_is_had, listed_has_ended}
 use Rattle.cb_schedules.proofs.SuccessionSteps.{SuccessionSo, step_is_so, successions_are_so, began_has_ended}
 
 -- what follows from it is so after every list of steps
-pub each_succession : (P : EndableGroup → SuccessionState → Type 0) → ((g : EndableGroup) (t : SuccessionState) → IsEndable g → SuccessionSo g t → P g t) → EachSuccession P
-each_succession P holds g steps endable = holds g (succession the_rules g steps) endable (successions_are_so g endable steps)
+pub each_succession : (P : EndableGroup → SuccessionState → Type 0)
+    → ((g : EndableGroup) (t : SuccessionState) → IsSucceeding g (stamped_lists g.setting t.group) t.begun → P g t) → EachSuccession P
+each_succession P holds g steps endable = holds g (succession the_rules g steps) (successions_are_so g endable steps).succeeding
 
-module _ (g : EndableGroup) (t : SuccessionState) (endable : IsEndable g) (so : SuccessionSo g t) where
+module _ (g : EndableGroup) (t : SuccessionState) (so : IsSucceeding g (stamped_lists g.setting t.group) t.begun) where
   -- ---- the cut
 
   pub exactly_the_cut_is_shown : ExactlyTheCutIsShown g t
   exactly_the_cut_is_shown b m (n, at) =
       let is : shown g t b.member ≡ upto_end g.plan_in (stamped_lists g.setting t.group b.member) ++ b.shown =
-      ap (λ (es : List Event). upto_end g.plan_in (stamped_lists g.setting t.group b.member) ++ es) (shown_at_its_begin g (stamped_lists g.setting t.group) t.begun so.succeeding n b at) in
-      let both = shown_is_the_cut g (stamped_lists g.setting t.group) t.begun so.succeeding n b at m in (
+      ap (λ (es : List Event). upto_end g.plan_in (stamped_lists g.setting t.group b.member) ++ es) (shown_at_its_begin g (stamped_lists g.setting t.group) t.begun so n b at) in
+      let both = shown_is_the_cut g (stamped_lists g.setting t.group) t.begun so n b at m in (
         λ h. both.0 (subst (λ (es : List Event). Has (without_times es) m) is h),
         λ in_cut. subst (λ (es : List Event). Has (without_times es) m) (sym is) (both.1 in_cut),
       )
@@ -45,7 +46,7 @@ module _ (g : EndableGroup) (t : SuccessionState) (endable : IsEndable g) (so : 
   pub the_same_is_shown : TheSameIsShown g t
   the_same_is_shown b c m (n, at_b) (l, at_c) text h =
       let plans : Some b.plan ≡ Some c.plan =
-      sym (so.succeeding.begins n b at_b).read ∙ ap g.plan_in text ∙ (so.succeeding.begins l c at_c).read in
+      sym (so.begins n b at_b).read ∙ ap g.plan_in text ∙ (so.begins l c at_c).read in
       let plan : b.plan ≡ c.plan = cc plans in
       (exactly_the_cut_is_shown c m (l, at_c)).1
       (subst (λ (p : Plan). IsInTheCut (causal_lists g.setting t.group) c.text p m) plan
@@ -53,18 +54,18 @@ module _ (g : EndableGroup) (t : SuccessionState) (endable : IsEndable g) (so : 
 
   pub what_was_shown_is_in_the_cut : WhatWasShownIsInTheCut g t
   what_was_shown_is_in_the_cut i text plan m ends h =
-      shown_before_is_in_cut g (stamped_lists g.setting t.group) t.begun so.succeeding i text plan ends.read ends.listed ends.end m h
+      shown_before_is_in_cut g (stamped_lists g.setting t.group) t.begun so i text plan ends.read ends.listed ends.end m h
 
   pub casts_are_in_the_cut : CastsAreInTheCut g t
   casts_are_in_the_cut i text plan index m payload ends at =
-      casts_are_in_cut g (stamped_lists g.setting t.group) t.begun so.succeeding i text plan ends.read ends.listed ends.end index m payload at
+      casts_are_in_cut g (stamped_lists g.setting t.group) t.begun so i text plan ends.read ends.listed ends.end index m payload at
 
   pub the_cut_is_one_vector : TheCutIsOneVector g t
-  the_cut_is_one_vector b m (n, at) one = vector_now g (stamped_lists g.setting t.group) t.begun so.succeeding n b at m one
+  the_cut_is_one_vector b m (n, at) one = vector_now g (stamped_lists g.setting t.group) t.begun so n b at m one
 
   pub the_cut_is_causal : TheCutIsCausal g t
   the_cut_is_causal b (n, at) =
-      cut_is_a_run g (stamped_lists g.setting t.group) t.begun so.succeeding n b at (lists_at_the_cut g t b) (λ k. each k)
+      cut_is_a_run g (stamped_lists g.setting t.group) t.begun so n b at (lists_at_the_cut g t b) (λ k. each k)
     where
       each : (k : ℕ) → (lists_at_the_cut g t b k ≡ part (λ m. nat_le m.number (cut_field b.text b.plan (stamped_lists g.setting t.group b.member) m.sender)) (causal_lists g.setting t.group) k)
           ⊎ ((m : ℕ) × (c : Begin) × (slice_get t.begun m ≡ Some c) × (c.member ≡ k) × (b.text ≡ c.text)
@@ -78,28 +79,31 @@ module _ (g : EndableGroup) (t : SuccessionState) (endable : IsEndable g) (so : 
                 let member : c.member ≡ k = eqb-true c.member k both.0 in
                 let its : flat_map (λ (d : Begin). d.shown) (filter (λ (d : Begin). eqb d.member k) t.begun) ≡ c.shown =
                 subst (λ (j : ℕ). flat_map (λ (d : Begin). d.shown) (filter (λ (d : Begin). eqb d.member j) t.begun) ≡ c.shown) member
-                (shown_at_its_begin g (stamped_lists g.setting t.group) t.begun so.succeeding m c at_c) in
+                (shown_at_its_begin g (stamped_lists g.setting t.group) t.begun so m c at_c) in
                 inr (m, c, at_c, member, same_text b.text c.text both.1,
                 rw holds (ap (λ (es : List Event). without_times (upto_end g.plan_in (stamped_lists g.setting t.group k) ++ es)) its))
             | inr fails ↦ inl (rw fails refl)
           ]
 
   pub the_cut_is_delivered : TheCutIsDelivered g t
-  the_cut_is_delivered b m (n, at) in_cut = cut_is_had g (stamped_lists g.setting t.group) t.begun so.succeeding n b at m in_cut
+  the_cut_is_delivered b m (n, at) in_cut = cut_is_had g (stamped_lists g.setting t.group) t.begun so n b at m in_cut
+
+  pub who_is_listed_has_ended : WhoIsListedHasEnded g t
+  who_is_listed_has_ended b k (n, at) listed = listed_has_ended g (stamped_lists g.setting t.group) t.begun so n b at k listed
 
   -- ---- nobody beside them
 
   pub nobody_begins_by_a_later_plan : NobodyBeginsByALaterPlan g t
   nobody_begins_by_a_later_plan b c (n, at_b) (m, at_c) later listed =
-      nobody_by_a_later_plan g (stamped_lists g.setting t.group) t.begun so.succeeding n m b c at_b at_c later listed
+      nobody_by_a_later_plan g (stamped_lists g.setting t.group) t.begun so n m b c at_b at_c later listed
 
   pub one_number_has_one_text : OneNumberHasOneText g t
   one_number_has_one_text b c (n, at_b) (m, at_c) same listed =
-      one_number_one_text g (stamped_lists g.setting t.group) t.begun so.succeeding n m b c at_b at_c same listed
+      one_number_one_text g (stamped_lists g.setting t.group) t.begun so n m b c at_b at_c same listed
 
   pub the_last_list_goes_one_way : TheLastListGoesOneWay g t
   the_last_list_goes_one_way last b c all (n, at_b) (m, at_c) b_last c_last =
-      one_way g (stamped_lists g.setting t.group) t.begun so.succeeding n m b c at_b at_c (all c b.member (m, at_c) b_last) (all b c.member (n, at_b) c_last)
+      one_way g (stamped_lists g.setting t.group) t.begun so n m b c at_b at_c (all c b.member (m, at_c) b_last) (all b c.member (n, at_b) c_last)
 
 -- ---- nothing that was shown is taken back
 

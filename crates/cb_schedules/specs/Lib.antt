@@ -23,3 +23,4 @@ pub mod Succession
 pub mod SuccessionLaws
 pub mod SuccessionRounds
 pub mod SuccessionTraps
+pub mod SuccessionRestarts

@@ -139,3 +139,9 @@ abbrev pub TheCutIsDelivered : EndableGroup → SuccessionState → Type 0
 TheCutIsDelivered g t =
     (b : Begin) (m : Name) → HasBegun t b → IsInTheCut (causal_lists g.setting t.group) b.text b.plan m
     → HasDelivered g.setting t.group b.member m
+
+-- and each whom its plan lists has cast that plan's END. So where these are the next group's members, whose plan somebody begins by there,
+-- each of them has begun that group.
+abbrev pub WhoIsListedHasEnded : EndableGroup → SuccessionState → Type 0
+WhoIsListedHasEnded g t =
+    (b : Begin) (k : ℕ) → HasBegun t b → is_listed k b.plan ≡ true → HasEnded (causal_lists g.setting t.group) k b.text

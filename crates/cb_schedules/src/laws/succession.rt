@@ -4,7 +4,8 @@ ghost use Rattle.cb_schedules.specs.SuccessionLaws.{CastsAreInTheCut, EachSucces
 ghost use Rattle.cb_schedules.specs.SuccessionLaws.{NobodyBeginsByALaterPlan, OneNumberHasOneText};
 ghost use Rattle.cb_schedules.specs.SuccessionLaws.{ShownListsGoOn, TheCutIsCausal, TheCutIsDelivered};
 ghost use Rattle.cb_schedules.specs.SuccessionLaws.{TheCutIsOneVector, TheLastListGoesOneWay, TheSameIsShown};
-ghost use Rattle.cb_schedules.specs.SuccessionLaws.{WhatWasShownIsInTheCut};
+ghost use Rattle.cb_schedules.specs.SuccessionLaws.{WhatWasShownIsInTheCut, WhoIsListedHasEnded};
+ghost use Rattle.cb_schedules.specs.SuccessionRestarts.{EachJournaledSuccession};
 ghost use Rattle.cb_schedules.specs.SuccessionRounds.{ADeadMemberIsNotNeeded, WhoComesLateMayBegin};
 ghost use Rattle.cb_schedules.specs.SuccessionTraps.{Breaks, NoReserveLeavesNoRoom, cut_is_now, ends_once};
 ghost use Rattle.cb_schedules.specs.SuccessionTraps.{no_compare, shows_all, takes_older};
@@ -36,9 +37,12 @@ pub fn nobody_begins_beside_them()
     ensures last { EachSuccession TheLastListGoesOneWay }
 {}
 
-/// Who has begun has delivered the whole cut. So when all of a list have begun, no message of the old group is asked for any more.
+/// Who has begun has delivered the whole cut: so when all of a list have begun, nobody of it lacks any message of the old group. And
+/// each whom the plan of a begin lists has cast that plan's END. So when somebody begins a third group by a plan of the second, each whom
+/// that plan lists has begun the second one, in which it cast that END, and the first group is not needed any more.
 pub fn the_old_group_is_not_needed()
     ensures delivered { EachSuccession TheCutIsDelivered }
+    ensures listed { EachSuccession WhoIsListedHasEnded }
 {}
 
 /// With kept places a member that has cast fewer ENDs than these has room for one more, also where a dead member keeps its window full:
@@ -70,4 +74,21 @@ pub fn other_rules_are_wrong()
     ensures shows_all { Breaks shows_all TheSameIsShown }
     ensures cut_is_now { Breaks cut_is_now TheSameIsShown }
     ensures no_reserve { NoReserveLeavesNoRoom }
+{}
+
+/// With journals all of this outlives restarts. Members enter their calls, write, send and end at any moment, and come back with what is
+/// written; a begin is made where all entries of its member are written, and is written itself before anything else happens. Then all
+/// laws above hold of what there is, after every list of such steps.
+pub fn successions_outlive_restarts()
+    ensures same { EachJournaledSuccession ExactlyTheCutIsShown }
+    ensures alike { EachJournaledSuccession TheSameIsShown }
+    ensures before { EachJournaledSuccession WhatWasShownIsInTheCut }
+    ensures vector { EachJournaledSuccession TheCutIsOneVector }
+    ensures causal { EachJournaledSuccession TheCutIsCausal }
+    ensures casts { EachJournaledSuccession CastsAreInTheCut }
+    ensures one { EachJournaledSuccession NobodyBeginsByALaterPlan }
+    ensures text { EachJournaledSuccession OneNumberHasOneText }
+    ensures last { EachJournaledSuccession TheLastListGoesOneWay }
+    ensures delivered { EachJournaledSuccession TheCutIsDelivered }
+    ensures listed { EachJournaledSuccession WhoIsListedHasEnded }
 {}
