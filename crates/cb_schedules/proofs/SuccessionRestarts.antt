@@ -72,14 +72,79 @@ module _ (g : EndableGroup) (endable : IsEndable g) (x : JournaledSuccession) (s
   -- its events go on, and its written events too
   pub record GoesOnWritten (after : JournaledState) (k : ℕ) : Type 0 where
     pub ends : EndsInTurn g.plan_in (stamped_lists g.setting (there_now after) k)
+    pub written : (more : List Event) × (written_events g.setting after k ≡ written_events g.setting x.journaled k ++ more)
     pub began : (n : ℕ) (b : Begin) → slice_get x.begun n ≡ Some b → b.member ≡ k
         → BeganWritten g (stamped_lists g.setting (there_now after) k) (written_events g.setting after k) (take n x.begun) b
 
-  and_goes_on : (step : JournaledStep) → ((k : ℕ) → GoesOnWritten (journaled_step WriteFirst g.setting x.journaled step) k) → JournaledSo g (and_journals g x step)
+  -- and what a step leaves of all
+  pub record GoesOn (after : JournaledSuccession) : Type 0 where
+    pub still : JournaledSo g after
+    pub shows : (i : ℕ) → (more : List Event) × (shown_written g after i ≡ shown_written g x i ++ more)
+
+  stays : GoesOn x
+  stays = record { still = so; shows = λ i. ([], sym (append-nil (shown_written g x i))) }
+
+  -- who has begun has an END among its events, and among those that are written
+  began_ended : (n : ℕ) (b : Begin) → slice_get x.begun n ≡ Some b
+      → (a : ℕ) × (m : Message) × (slice_get (stamped_lists g.setting (there_now x.journaled) b.member) a ≡ Some (Cast m)) × (g.plan_in m.payload ≡ Some b.plan)
+      × (slice_get (written_events g.setting x.journaled b.member) a ≡ Some (Cast m))
+  began_ended n b at =
+      let succeeds = now_succeeds g endable x so in
+      let (a, m, stood, text) = own_end g (stamped_lists g.setting (there_now x.journaled)) x.begun succeeds n b at in
+      let written = so.begins n b at in
+      (a, m, stands_now g (stamped_lists g.setting (there_now x.journaled)) x.begun succeeds n b at a (Cast m) stood, ap g.plan_in text ∙ written.so.read,
+      ap (λ (es : List Event). slice_get es a) written.goes_on ∙ get_left written.so.then_events written.rest a (slice_get_within written.so.then_events a (Cast m) stood) ∙ stood)
+
+  abbrev its_begins : ℕ → List Event
+  its_begins i = flat_map (λ (b : Begin). b.shown) (filter (λ (b : Begin). eqb b.member i) x.begun)
+
+  -- who has written no END has not begun
+  no_end_no_begin : (i : ℕ) → ((a : ℕ) (e : Event) → slice_get (written_events g.setting x.journaled i) a ≡ Some e → is_own_end g.plan_in e ≡ false)
+      → flat_map (λ (b : Begin). b.shown) (filter (λ (b : Begin). eqb b.member i) x.begun) ≡ []
+  no_end_no_begin i none =
+      ap (flat_map (λ (b : Begin). b.shown)) (filter_none (λ (b : Begin). eqb b.member i) x.begun (λ n b at. by_test n b at (cases_Bool (eqb b.member i))))
+    where
+      by_test : (n : ℕ) (b : Begin) → slice_get x.begun n ≡ Some b → (eqb b.member i ≡ true) ⊎ (eqb b.member i ≡ false) → eqb b.member i ≡ false
+      by_test n b at (inr fails) = fails
+      by_test n b at (inl holds) =
+          let same : b.member ≡ i = eqb-true b.member i holds in
+          let (a, m, stands, read, written) = began_ended n b at in
+          let here : slice_get (written_events g.setting x.journaled i) a ≡ Some (Cast m) = subst (λ (j : ℕ). slice_get (written_events g.setting x.journaled j) a ≡ Some (Cast m)) same written in
+          let is : is_own_end g.plan_in (Cast m) ≡ true = is_end g.plan_in m b.plan read in
+          let not_so : is_own_end g.plan_in (Cast m) ≡ false = none a (Cast m) here in
+          absurd (cc)
+
+  -- where more is written, more is shown or the same
+  more_shown : (after : JournaledState) (i : ℕ) (more : List Event) → written_events g.setting after i ≡ written_events g.setting x.journaled i ++ more
+      → (rest : List Event) × (shown_written g (record { journaled = after; begun = x.begun }) i ≡ shown_written g x i ++ rest)
+  more_shown after i more is =
+      elim (cases_Bool (list_any (is_own_end g.plan_in) (written_events g.setting x.journaled i))) [
+        | inl some ↦
+            let (e, there, holds) = one_of (is_own_end g.plan_in) (written_events g.setting x.journaled i) some in
+            let (a, at) = index_of (written_events g.setting x.journaled i) e there in
+            ([], ap (λ (es : List Event). es ++ its_begins i) (ap (upto_end g.plan_in) is ∙ upto_stays g.plan_in (written_events g.setting x.journaled i) more a e at holds)
+            ∙ sym (append-nil (shown_written g x i)))
+        | inr none ↦
+            let no_end : (a : ℕ) (e : Event) → slice_get (written_events g.setting x.journaled i) a ≡ Some e → is_own_end g.plan_in e ≡ false =
+            λ a e at. none_passes (is_own_end g.plan_in) (written_events g.setting x.journaled i) none a e at in
+            let nothing = no_end_no_begin i no_end in
+            let before : shown_written g x i ≡ written_events g.setting x.journaled i =
+            ap (λ (es : List Event). upto_end g.plan_in (written_events g.setting x.journaled i) ++ es) nothing ∙ append-nil (upto_end g.plan_in (written_events g.setting x.journaled i))
+            ∙ ap (upto_end g.plan_in) (sym (append-nil (written_events g.setting x.journaled i))) ∙ upto_all g.plan_in (written_events g.setting x.journaled i) [] no_end ∙ append-nil (written_events g.setting x.journaled i) in
+            (upto_end g.plan_in more, ap (λ (es : List Event). upto_end g.plan_in (written_events g.setting after i) ++ es) nothing
+            ∙ append-nil (upto_end g.plan_in (written_events g.setting after i))
+            ∙ ap (upto_end g.plan_in) is ∙ upto_all g.plan_in (written_events g.setting x.journaled i) more no_end
+            ∙ ap (λ (es : List Event). es ++ upto_end g.plan_in more) (sym before))
+      ]
+
+  and_goes_on : (step : JournaledStep) → ((k : ℕ) → GoesOnWritten (journaled_step WriteFirst g.setting x.journaled step) k) → GoesOn (and_journals g x step)
   and_goes_on step each = record {
-    journaled = step_holds g.setting endable.is_setting x.journaled so.journaled step;
-    ends = λ k. (each k).ends;
-    begins = λ n b at. (each b.member).began n b at refl;
+    still = record {
+      journaled = step_holds g.setting endable.is_setting x.journaled so.journaled step;
+      ends = λ k. (each k).ends;
+      begins = λ n b at. (each b.member).began n b at refl;
+    };
+    shows = λ i. more_shown (journaled_step WriteFirst g.setting x.journaled step) i (each i).written.0 (each i).written.1;
   }
 
   its_begin : (k n : ℕ) (b : Begin) → slice_get x.begun n ≡ Some b → b.member ≡ k
@@ -95,6 +160,7 @@ module _ (g : EndableGroup) (endable : IsEndable g) (x : JournaledSuccession) (s
       → ((n : ℕ) (b : Begin) → slice_get x.begun n ≡ Some b → b.member ≡ k → casts_among more ≡ []) → GoesOnWritten after k
   more_in_memory after k more goes_on same_written ends quiet = record {
     ends = subst (EndsInTurn g.plan_in) (sym goes_on) ends;
+    written = ([], same_written ∙ sym (append-nil (written_events g.setting x.journaled k)));
     began = λ n b at same.
         let old = its_begin k n b at same in
         subst (λ (es : List Event). BeganWritten g es (written_events g.setting after k) (take n x.begun) b) (sym goes_on) (record {
@@ -110,6 +176,7 @@ module _ (g : EndableGroup) (endable : IsEndable g) (x : JournaledSuccession) (s
       → written_events g.setting after k ≡ written_events g.setting x.journaled k ++ more → GoesOnWritten after k
   more_is_written after k more same goes_on = record {
     ends = subst (EndsInTurn g.plan_in) (sym same) (so.ends k);
+    written = (more, goes_on);
     began = λ n b at member.
         let old = its_begin k n b at member in
         subst (λ (es : List Event). BeganWritten g es (written_events g.setting after k) (take n x.begun) b) (sym same) (record {
@@ -234,7 +301,7 @@ module _ (g : EndableGroup) (endable : IsEndable g) (x : JournaledSuccession) (s
             more_in_memory (after_entering g.setting x.journaled (Calls i (ToCast load))) i (own_more i (ToCast load) h_after).0 (own_more i (ToCast load) h_after).1 (own_written i (ToCast load) h_after)
             (ends (own_more i (ToCast load) h_after).0 c.sender c.number says) (λ n b at member. absurd (not_begun n b at member))
 
-    enters_cast : JournaledSo g (and_journals g x (EnterStep (CastStep i load)))
+    enters_cast : GoesOn (and_journals g x (EnterStep (CastStep i load)))
     unfolding journaled_step
     enters_cast = and_goes_on (EnterStep (CastStep i load)) (λ k. by_asked k (step_holds g.setting endable.is_setting x.journaled so.journaled (EnterStep (CastStep i load))))
       where
@@ -252,7 +319,7 @@ module _ (g : EndableGroup) (endable : IsEndable g) (x : JournaledSuccession) (s
             (λ _ _. nothing k)
 
   -- a step in which nobody casts
-  enters_other : (step : Step) → IsNoCastStep step → JournaledSo g (and_journals g x (EnterStep step))
+  enters_other : (step : Step) → IsNoCastStep step → GoesOn (and_journals g x (EnterStep step))
   unfolding journaled_step
   enters_other step none =
       and_goes_on (EnterStep step) (λ k. by_asked (asked_by g.setting x.journaled.sent step) (no_cast g.setting x.journaled.sent step none)
@@ -270,7 +337,7 @@ module _ (g : EndableGroup) (endable : IsEndable g) (x : JournaledSuccession) (s
 
   -- ---- writing, sending, handing out, restarts
 
-  writes_entry : (j : ℕ) → JournaledSo g (and_journals g x (WriteStep j))
+  writes_entry : (j : ℕ) → GoesOn (and_journals g x (WriteStep j))
   unfolding journaled_step
   writes_entry j = and_goes_on (WriteStep j) (λ k. each k)
     where
@@ -285,7 +352,7 @@ module _ (g : EndableGroup) (endable : IsEndable g) (x : JournaledSuccession) (s
           (λ other. ([], sym (append-nil (written_events g.setting x.journaled k)))) in
           more_is_written (after_writing x.journaled j) k shows.0 refl shows.1
 
-  sends : (j n : ℕ) → JournaledSo g (and_journals g x (SendStep j n))
+  sends : (j n : ℕ) → GoesOn (and_journals g x (SendStep j n))
   unfolding journaled_step
   sends j n = and_goes_on (SendStep j n) (λ k. each k (slice_get (x.journaled.waiting j) n))
     where
@@ -294,7 +361,7 @@ module _ (g : EndableGroup) (endable : IsEndable g) (x : JournaledSuccession) (s
       each k (Some w) =
           cond_both (leb w.behind (x.journaled.written j)) _ x.journaled (λ (after : JournaledState). GoesOnWritten after k) (λ _. stays_so _ k refl refl) (λ _. stays_so x.journaled k refl refl)
 
-  hands_out : (j : ℕ) → JournaledSo g (and_journals g x (HandOutStep j))
+  hands_out : (j : ℕ) → GoesOn (and_journals g x (HandOutStep j))
   unfolding journaled_step
   hands_out j = and_goes_on (HandOutStep j) (λ k. each k (slice_get (events (seat_at g.setting j) (facts_of (written_entries x.journaled j))) (length (x.journaled.handed j))))
     where
@@ -302,7 +369,7 @@ module _ (g : EndableGroup) (endable : IsEndable g) (x : JournaledSuccession) (s
       each k None = stays_so x.journaled k refl refl
       each k (Some e) = stays_so (and_handed x.journaled j (Some e)) k refl refl
 
-  restarts : (j : ℕ) → JournaledSo g (and_journals g x (RestartStep j))
+  restarts : (j : ℕ) → GoesOn (and_journals g x (RestartStep j))
   unfolding journaled_step
   restarts j = and_goes_on (RestartStep j) (λ k. each k)
     where
@@ -343,6 +410,7 @@ module _ (g : EndableGroup) (endable : IsEndable g) (x : JournaledSuccession) (s
       at_own : GoesOnWritten (after_restart x.journaled j) j
       at_own = record {
         ends = subst (EndsInTurn g.plan_in) (sym lists_are) shorter;
+        written = ([], written_is ∙ sym (append-nil (written_events g.setting x.journaled j)));
         began = λ n b at same.
             let old = its_begin j n b at same in
             let tail : old.so.more ≡ old.rest ++ whole.0 =
@@ -376,17 +444,7 @@ module _ (g : EndableGroup) (endable : IsEndable g) (x : JournaledSuccession) (s
 
   -- ---- what is allowed
 
-  began_ended : (n : ℕ) (b : Begin) → slice_get x.begun n ≡ Some b
-      → (a : ℕ) × (m : Message) × (slice_get (stamped_lists g.setting (there_now x.journaled) b.member) a ≡ Some (Cast m)) × (g.plan_in m.payload ≡ Some b.plan)
-      × (slice_get (written_events g.setting x.journaled b.member) a ≡ Some (Cast m))
-  began_ended n b at =
-      let succeeds = now_succeeds g endable x so in
-      let (a, m, stood, text) = own_end g (stamped_lists g.setting (there_now x.journaled)) x.begun succeeds n b at in
-      let written = so.begins n b at in
-      (a, m, stands_now g (stamped_lists g.setting (there_now x.journaled)) x.begun succeeds n b at a (Cast m) stood, ap g.plan_in text ∙ written.so.read,
-      ap (λ (es : List Event). slice_get es a) written.goes_on ∙ get_left written.so.then_events written.rest a (slice_get_within written.so.then_events a (Cast m) stood) ∙ stood)
-
-  talks : (i : ℕ) (load : Load) → may_talk g (there_now x.journaled) i load ≡ true → JournaledSo g (and_journals g x (EnterStep (CastStep i load)))
+  talks : (i : ℕ) (load : Load) → may_talk g (there_now x.journaled) i load ≡ true → GoesOn (and_journals g x (EnterStep (CastStep i load)))
   talks i load may =
       enters_cast i load
       (λ more sender n casts. turn_talks g.plan_in (stamped_lists g.setting (there_now x.journaled) i) more sender n (payloads_of load) casts one.talk one.quiet)
@@ -406,7 +464,7 @@ module _ (g : EndableGroup) (endable : IsEndable g) (x : JournaledSuccession) (s
           cc
 
   ends_by : (i : ℕ) (text : List ℕ) (plan : Plan) → g.plan_in text ≡ Some plan → may_end g x.begun (stamped_lists g.setting (there_now x.journaled) i) i plan ≡ true
-      → JournaledSo g (and_journals g x (EnterStep (CastStep i (One text))))
+      → GoesOn (and_journals g x (EnterStep (CastStep i (One text))))
   ends_by i text plan read may =
       enters_cast i (One text)
       (λ more sender n casts. turn_ends g.plan_in (stamped_lists g.setting (there_now x.journaled) i) more sender n text plan (so.ends i) casts read asks_for.further)
@@ -417,11 +475,20 @@ module _ (g : EndableGroup) (endable : IsEndable g) (x : JournaledSuccession) (s
 
   begins_by : (i : ℕ) (text : List ℕ) (plan : Plan) → g.plan_in text ≡ Some plan
       → (is_written x.journaled i && may_begin g x.begun (stamped_lists g.setting (there_now x.journaled) i) i text plan) ≡ true
-      → JournaledSo g (record { journaled = x.journaled; begun = x.begun ++ record { member = i; text = text; plan = plan; shown = shown_at_begin g (stamped_lists g.setting (there_now x.journaled) i) text plan } ∷ [] })
+      → GoesOn (record { journaled = x.journaled; begun = x.begun ++ record { member = i; text = text; plan = plan; shown = shown_at_begin g (stamped_lists g.setting (there_now x.journaled) i) text plan } ∷ [] })
   begins_by i text plan read may = record {
-    journaled = so.journaled;
-    ends = so.ends;
-    begins = λ n b at. by_place n b (get_two x.begun (new ∷ []) n b at);
+    still = record {
+      journaled = so.journaled;
+      ends = so.ends;
+      begins = λ n b at. by_place n b (get_two x.begun (new ∷ []) n b at);
+    };
+    shows = λ k. (
+      flat_map (λ (c : Begin). c.shown) (filter (λ (c : Begin). eqb c.member k) (new ∷ [])),
+      ap (λ (bs : List Begin). upto_end g.plan_in (written_events g.setting x.journaled k) ++ flat_map (λ (c : Begin). c.shown) bs) (filter-append (λ (c : Begin). eqb c.member k) x.begun (new ∷ []))
+      ∙ ap (λ (es : List Event). upto_end g.plan_in (written_events g.setting x.journaled k) ++ es)
+      (flat_map-append (λ (c : Begin). c.shown) (filter (λ (c : Begin). eqb c.member k) x.begun) (filter (λ (c : Begin). eqb c.member k) (new ∷ [])))
+      ∙ sym (append_assoc (upto_end g.plan_in (written_events g.setting x.journaled k)) (its_begins k) (flat_map (λ (c : Begin). c.shown) (filter (λ (c : Begin). eqb c.member k) (new ∷ [])))),
+    );
   }
     where
       both : (is_written x.journaled i ≡ true) × (may_begin g x.begun (stamped_lists g.setting (there_now x.journaled) i) i text plan ≡ true)
@@ -464,10 +531,10 @@ module _ (g : EndableGroup) (endable : IsEndable g) (x : JournaledSuccession) (s
       by_place n b (inr (suc j, last, at)) = absurd (cc)
 
   -- so by each step
-  pub journaled_step_is_so : (step : JournaledSuccessionStep) → JournaledSo g (journaled_succession_step g x step)
+  pub journaled_step_is_so : (step : JournaledSuccessionStep) → GoesOn (journaled_succession_step g x step)
   unfolding journaled_succession_step
   journaled_step_is_so (Journals (EnterStep (CastStep i load))) =
-      cond_both (may_talk g (there_now x.journaled) i load) (and_journals g x (EnterStep (CastStep i load))) x (JournaledSo g) (talks i load) (λ _. so)
+      cond_both (may_talk g (there_now x.journaled) i load) (and_journals g x (EnterStep (CastStep i load))) x GoesOn (talks i load) (λ _. stays)
   journaled_step_is_so (Journals (EnterStep (ArriveStep j number))) = enters_other (ArriveStep j number) tt
   journaled_step_is_so (Journals (EnterStep (TickStep i))) = enters_other (TickStep i) tt
   journaled_step_is_so (Journals (EnterStep (HelpStep j i))) = enters_other (HelpStep j i) tt
@@ -477,16 +544,16 @@ module _ (g : EndableGroup) (endable : IsEndable g) (x : JournaledSuccession) (s
   journaled_step_is_so (Journals (RestartStep j)) = restarts j
   journaled_step_is_so (EntersEnd i text) = by_plan (g.plan_in text) refl
     where
-      by_plan : (o : Option Plan) → g.plan_in text ≡ o → JournaledSo g (and_enters_end g x i text o)
-      by_plan None read = so
+      by_plan : (o : Option Plan) → g.plan_in text ≡ o → GoesOn (and_enters_end g x i text o)
+      by_plan None read = stays
       by_plan (Some plan) read =
-          cond_both (may_end g x.begun (stamped_lists g.setting (there_now x.journaled) i) i plan) (and_journals g x (EnterStep (CastStep i (One text)))) x (JournaledSo g) (ends_by i text plan read) (λ _. so)
+          cond_both (may_end g x.begun (stamped_lists g.setting (there_now x.journaled) i) i plan) (and_journals g x (EnterStep (CastStep i (One text)))) x GoesOn (ends_by i text plan read) (λ _. stays)
   journaled_step_is_so (WritesBegin i text) = by_plan (g.plan_in text) refl
     where
-      by_plan : (o : Option Plan) → g.plan_in text ≡ o → JournaledSo g (and_writes_begin g x i text o)
-      by_plan None read = so
+      by_plan : (o : Option Plan) → g.plan_in text ≡ o → GoesOn (and_writes_begin g x i text o)
+      by_plan None read = stays
       by_plan (Some plan) read =
-          cond_both (is_written x.journaled i && may_begin g x.begun (stamped_lists g.setting (there_now x.journaled) i) i text plan) _ x (JournaledSo g) (begins_by i text plan read) (λ _. so)
+          cond_both (is_written x.journaled i && may_begin g x.begun (stamped_lists g.setting (there_now x.journaled) i) i text plan) _ x GoesOn (begins_by i text plan read) (λ _. stays)
 
 -- ---- all steps
 
@@ -501,7 +568,7 @@ at_first g endable = record {
 journaled_so_from : (g : EndableGroup) → IsEndable g → (x : JournaledSuccession) → JournaledSo g x → (steps : List JournaledSuccessionStep) → JournaledSo g (journaled_succession_from g x steps)
 unfolding journaled_succession_from
 journaled_so_from g endable x so [] = so
-journaled_so_from g endable x so (step ∷ steps) = journaled_so_from g endable (journaled_succession_step g x step) (journaled_step_is_so g endable x so step) steps
+journaled_so_from g endable x so (step ∷ steps) = journaled_so_from g endable (journaled_succession_step g x step) (journaled_step_is_so g endable x so step).still steps
 
 pub journaled_successions_are_so : (g : EndableGroup) → IsEndable g → (steps : List JournaledSuccessionStep) → JournaledSo g (journaled_succession g steps)
 journaled_successions_are_so g endable steps = journaled_so_from g endable (record { journaled = nothing_journaled; begun = [] }) (at_first g endable) steps
@@ -510,3 +577,19 @@ pub each_journaled_succession : (P : EndableGroup → SuccessionState → Type 0
     → ((g : EndableGroup) (t : SuccessionState) → IsSucceeding g (stamped_lists g.setting t.group) t.begun → P g t) → EachJournaledSuccession P
 each_journaled_succession P holds g steps endable =
     holds g (succession_now (journaled_succession g steps)) (now_succeeds g endable (journaled_succession g steps) (journaled_successions_are_so g endable steps))
+
+journaled_joins : (g : EndableGroup) (x : JournaledSuccession) (steps more : List JournaledSuccessionStep)
+    → journaled_succession_from g x (steps ++ more) ≡ journaled_succession_from g (journaled_succession_from g x steps) more
+unfolding journaled_succession_from
+journaled_joins g x [] more = refl
+journaled_joins g x (step ∷ steps) more = journaled_joins g (journaled_succession_step g x step) steps more
+
+one_step : (g : EndableGroup) (x : JournaledSuccession) (step : JournaledSuccessionStep) → journaled_succession_from g x (step ∷ []) ≡ journaled_succession_step g x step
+unfolding journaled_succession_from
+one_step g x step = refl
+
+pub what_was_shown_outlives_restarts : WhatWasShownOutlivesRestarts
+what_was_shown_outlives_restarts g steps step i endable =
+    let (more, is) = (journaled_step_is_so g endable (journaled_succession g steps) (journaled_successions_are_so g endable steps) step).shows i in
+    (more, ap (λ (x : JournaledSuccession). shown_written g x i)
+    (journaled_joins g (record { journaled = nothing_journaled; begun = [] }) steps (step ∷ []) ∙ one_step g (journaled_succession g steps) step) ∙ is)

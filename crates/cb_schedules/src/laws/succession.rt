@@ -5,7 +5,7 @@ ghost use Rattle.cb_schedules.specs.SuccessionLaws.{NobodyBeginsByALaterPlan, On
 ghost use Rattle.cb_schedules.specs.SuccessionLaws.{ShownListsGoOn, TheCutIsCausal, TheCutIsDelivered};
 ghost use Rattle.cb_schedules.specs.SuccessionLaws.{TheCutIsOneVector, TheLastListGoesOneWay, TheSameIsShown};
 ghost use Rattle.cb_schedules.specs.SuccessionLaws.{WhatWasShownIsInTheCut, WhoIsListedHasEnded};
-ghost use Rattle.cb_schedules.specs.SuccessionRestarts.{EachJournaledSuccession};
+ghost use Rattle.cb_schedules.specs.SuccessionRestarts.{EachJournaledSuccession, WhatWasShownOutlivesRestarts};
 ghost use Rattle.cb_schedules.specs.SuccessionRounds.{ADeadMemberIsNotNeeded, WhoComesLateMayBegin};
 ghost use Rattle.cb_schedules.specs.SuccessionTraps.{Breaks, NoReserveLeavesNoRoom, cut_is_now, ends_once};
 ghost use Rattle.cb_schedules.specs.SuccessionTraps.{no_compare, shows_all, takes_older};
@@ -78,7 +78,8 @@ pub fn other_rules_are_wrong()
 
 /// With journals all of this outlives restarts. Members enter their calls, write, send and end at any moment, and come back with what is
 /// written; a begin is made where all entries of its member are written, and is written itself before anything else happens. Then all
-/// laws above hold of what there is, after every list of such steps.
+/// laws above hold of what there is, after every list of such steps. Where a caller is shown written events alone, no step takes back what
+/// it was shown.
 pub fn successions_outlive_restarts()
     ensures same { EachJournaledSuccession ExactlyTheCutIsShown }
     ensures alike { EachJournaledSuccession TheSameIsShown }
@@ -91,4 +92,5 @@ pub fn successions_outlive_restarts()
     ensures last { EachJournaledSuccession TheLastListGoesOneWay }
     ensures delivered { EachJournaledSuccession TheCutIsDelivered }
     ensures listed { EachJournaledSuccession WhoIsListedHasEnded }
+    ensures kept { WhatWasShownOutlivesRestarts }
 {}

@@ -1,6 +1,6 @@
 use Rattle.cb_schedules.specs.SuccessionLaws.{ExactlyTheCutIsShown, TheSameIsShown, WhatWasShownIsInTheCut, TheCutIsOneVector, TheCutIsCausal, CastsAreInTheCut, NobodyBeginsByALaterPlan, OneNumberHasOneText, TheLastListGoesOneWay, TheCutIsDelivered, WhoIsListedHasEnded}
 use Rattle.cb_schedules.proofs.Successions.{exactly_the_cut_is_shown, the_same_is_shown, what_was_shown_is_in_the_cut, the_cut_is_one_vector, the_cut_is_causal, casts_are_in_the_cut, nobody_begins_by_a_later_plan, one_number_has_one_text, the_last_list_goes_one_way, the_cut_is_delivered, who_is_listed_has_ended}
-use Rattle.cb_schedules.proofs.SuccessionRestarts.{each_journaled_succession}
+use Rattle.cb_schedules.proofs.SuccessionRestarts.{each_journaled_succession, what_was_shown_outlives_restarts}
 use Rattle.cb_schedules.proofs.laws.succession.successions_outlive_restarts.Goals as goal
 
 pub returns-clause-same : goal.returns-clause-same
@@ -35,3 +35,6 @@ returns-clause-delivered c = each_journaled_succession TheCutIsDelivered the_cut
 
 pub returns-clause-listed : goal.returns-clause-listed
 returns-clause-listed c = each_journaled_succession WhoIsListedHasEnded who_is_listed_has_ended
+
+pub returns-clause-kept : goal.returns-clause-kept
+returns-clause-kept c = what_was_shown_outlives_restarts
