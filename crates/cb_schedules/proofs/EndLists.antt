@@ -1,6 +1,6 @@
 -- Lists of events with ENDs among them.
 use Rattle.std.specs.Prelude.{slice_get, is_some, bytes_eq}
-use Rattle.std.specs.List.{filter, list_any, cons_option}
+use Rattle.std.specs.List.{filter, filter_map, list_any, cons_option}
 use Rattle.std.proofs.Common.{◌≡◌, ℕ, zero, suc, ◌+◌, ◌<◌, ◌≤◌, ◌⊎◌, ◌&&◌, Bool, true, false, cond, eqb, inl, inr, Option, List, [], ◌∷◌, ◌++◌, length, map, max, Some, None, refl, sym, ◌∙◌, ap, subst, arith, append-nil}
 use Rattle.std.proofs.lemmas.Bool.{cases_Bool, cases_lt, cond_both, and_parts, eqb-true, both_ways}
 use Rattle.std.proofs.lemmas.Option.{slice_get_within}
@@ -193,7 +193,7 @@ same_text xs ys e = (bytes_eq-Decides xs ys).0 e
 pub text_same : (xs ys : List ℕ) → xs ≡ ys → bytes_eq xs ys ≡ true
 text_same xs ys e = (bytes_eq-Decides xs ys).1 e
 
-both_hold : (a b : Bool) → a ≡ true → b ≡ true → (a && b) ≡ true
+pub both_hold : (a b : Bool) → a ≡ true → b ≡ true → (a && b) ≡ true
 both_hold a b yes_a yes_b = rw (yes_a, yes_b) refl
 
 pub end_by_is : (text : List ℕ) (k : ℕ) (e : Event) → is_end_by text k e ≡ true → ((message_of e).name.sender ≡ k) × ((message_of e).payload ≡ text)
@@ -251,6 +251,12 @@ pub casts_of_both : (xs ys : List Event) → casts_among (xs ++ ys) ≡ casts_am
 casts_of_both [] ys = refl
 casts_of_both (Cast m ∷ xs) ys = ap (λ (l : List Carried). carried_in m ∷ l) (casts_of_both xs ys)
 casts_of_both (Deliver m ∷ xs) ys = casts_of_both xs ys
+
+-- own plans are those of the casts
+pub plans_of_casts : (plan_in : Reading) (es : List Event) → own_plans plan_in es ≡ filter_map (λ (c : Carried). plan_in c.payload) (casts_among es)
+plans_of_casts plan_in [] = refl
+plans_of_casts plan_in (Cast m ∷ es) = ap (cons_option (plan_in m.payload)) (plans_of_casts plan_in es)
+plans_of_casts plan_in (Deliver m ∷ es) = plans_of_casts plan_in es
 
 -- where there is a cast there is its message
 pub cast_is_among : (es : List Event) (a : ℕ) (m : Message) → slice_get es a ≡ Some (Cast m) → IsIn (carried_in m) (casts_among es)

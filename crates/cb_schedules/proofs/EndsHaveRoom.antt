@@ -26,7 +26,7 @@ use Rattle.cb_schedules.specs.RoundLaws.{IsNoCastStep}
 use Rattle.cb_schedules.specs.StepLaws.{HistoriesGoOn, NoEntry, OneEntry}
 use Rattle.cb_schedules.specs.Succession.{Plan, Reading, EndableGroup, IsEndable, own_plan, own_plans, may_talk, may_end, may_begin, leaves_out, the_rules, SuccessionStep, Happens, Ends, Begins, SuccessionState, and_happens, and_ends, and_begins, succession_step, succession_from, nobody_yet, succession}
 use Rattle.cb_schedules.specs.SuccessionLaws.{EndsHaveRoom, EachSuccession}
-use Rattle.cb_schedules.proofs.EndLists.{casts_of_both}
+use Rattle.cb_schedules.proofs.EndLists.{casts_of_both, plans_of_casts}
 use Rattle.cb_schedules.proofs.Later.{MoreFacts, own_casts-append, step_is_later}
 use Rattle.cb_schedules.proofs.StepByStep.{histories_go_on}
 use Rattle.cb_schedules.proofs.SuccessionSteps.{SuccessionSo, OwnMore, cast_step_adds, messages_are, more_of, may_talk_asks, step_is_so, successions_are_so, nobody_is_so}
@@ -73,12 +73,6 @@ stable_stays setting s inv step k = by_entry (histories_go_on setting s inv step
           | inr other ↦
               subst (λ (entries : List EntryFields). stable (seat_at setting k) (facts_at s k) ≤ stable (seat_at setting k) (facts_of entries)) (sym (app.others k other)) (omega arith)
         ]
-
--- own plans are those of the casts
-plans_of_casts : (plan_in : Reading) (es : List Event) → own_plans plan_in es ≡ filter_map (λ (c : Carried). plan_in c.payload) (casts_among es)
-plans_of_casts plan_in [] = refl
-plans_of_casts plan_in (Cast m ∷ es) = ap (cons_option (plan_in m.payload)) (plans_of_casts plan_in es)
-plans_of_casts plan_in (Deliver m ∷ es) = plans_of_casts plan_in es
 
 numbered_are : (sender n : ℕ) (payloads : List (List ℕ)) → length (numbered sender n payloads) ≡ length payloads
 numbered_are sender n [] = refl

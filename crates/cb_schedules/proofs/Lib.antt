@@ -59,3 +59,4 @@ pub mod SuccessionRows
 pub mod EndsHaveRoom
 pub mod SuccessionRounds
 pub mod SuccessionRestarts
+pub mod LeftOut

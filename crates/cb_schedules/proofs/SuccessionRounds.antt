@@ -1,6 +1,6 @@
 -- Rounds without a silent member bring the ENDs to all who go on.
 use Rattle.std.specs.Prelude.{slice_get, is_none, bytes_eq, nat_le, nat_lt, not}
-use Rattle.std.specs.List.{AllByRecursion, list_any, list_all, filter_map, cons_option}
+use Rattle.std.specs.List.{AllByRecursion, list_any, list_all, filter_map}
 use Rattle.std.proofs.Common.{◌≡◌, ◌≢◌, ℕ, ◌+◌, ◌<◌, ◌≤◌, ◌&&◌, ◌||◌, Bool, true, false, cond, eqb, inl, inr, Option, List, [], ◌∷◌, ◌++◌, length, map, Some, None, refl, sym, ◌∙◌, ap, subst, arith, append-nil, append_assoc}
 use Rattle.std.proofs.lemmas.Bool.{cond_both, and_parts, eq-eqb, leb-true, ltb-true, le-ltb, or_cases}
 use Rattle.std.proofs.lemmas.Option.{slice_get_within}
@@ -30,11 +30,11 @@ use Rattle.cb_schedules.specs.HelpRoundLaws.{rounds_without}
 use Rattle.cb_schedules.specs.Consistent.{IsConsistent}
 use Rattle.cb_schedules.specs.Succession.{Plan, Reading, EndableGroup, IsEndable, is_listed, own_plan, own_plans, is_end_by, Begin, has_begun, is_passed, may_talk, may_end, may_begin, shown_at_begin, the_rules, SuccessionStep, Happens, Ends, Begins, SuccessionState, and_happens, and_ends, and_begins, succession_step, succession_from, nobody_yet, succession}
 use Rattle.cb_schedules.specs.SuccessionLaws.{HasEnded}
-use Rattle.cb_schedules.specs.SuccessionRounds.{rounds_of, behind_rounds, MayBeginNow, GoesOnBy, ADeadMemberIsNotNeeded, ComesLate, WhoComesLateMayBegin}
+use Rattle.cb_schedules.specs.SuccessionRounds.{rounds_of, behind_rounds, MayBeginNow, GoesOnBy, ADeadMemberIsNotNeeded, ComesLate, WhoComesLateMayBegin, NothingElseIsWaitedFor}
 use Rattle.cb_schedules.proofs.Courses.{step_goes_on, consistent_from}
-use Rattle.cb_schedules.proofs.EndLists.{casts_of_both, same_text, text_same}
+use Rattle.cb_schedules.proofs.EndLists.{casts_of_both, plans_of_casts, both_hold, text_same}
 use Rattle.cb_schedules.proofs.GoingOn.{runs_join}
-use Rattle.cb_schedules.proofs.Headlines.{member_has}
+use Rattle.cb_schedules.proofs.Headlines.{member_has, headline_holds}
 use Rattle.cb_schedules.proofs.HelpRoundLaws.{others_have_what_any_had}
 use Rattle.cb_schedules.proofs.HelpSteps.{help_rounds_cast_nothing}
 use Rattle.cb_schedules.proofs.Later.{MoreFacts, own_casts-append, step_is_later}
@@ -54,7 +54,7 @@ module _ (g : EndableGroup) (t : SuccessionState) where
   unfolding run_from
   one_more step = (step ∷ [], refl)
 
-  group_steps : (step : SuccessionStep) → (more : Schedule) × ((succession_step the_rules g t step).group ≡ run_from g.setting t.group more)
+  pub group_steps : (step : SuccessionStep) → (more : Schedule) × ((succession_step the_rules g t step).group ≡ run_from g.setting t.group more)
   unfolding succession_step
   group_steps (Happens (CastStep i load)) =
       cond_both (may_talk g t.group i load) (and_happens g t (CastStep i load)) t (λ (after : SuccessionState). (more : Schedule) × (after.group ≡ run_from g.setting t.group more))
@@ -117,11 +117,53 @@ quiet_events setting is s inv (step ∷ steps) none k =
     (first ++ rest, is_rest ∙ ap (λ (es : List Event). es ++ rest) is_first ∙ append_assoc (stamped_lists setting s k) first rest,
     casts_of_both first rest ∙ ap (λ (cs : List Carried). cs ++ casts_among rest) no_first ∙ no_rest)
 
--- own plans are those of the casts
-plans_of_casts : (plan_in : Reading) (es : List Event) → own_plans plan_in es ≡ filter_map (λ (c : Carried). plan_in c.payload) (casts_among es)
-plans_of_casts plan_in [] = refl
-plans_of_casts plan_in (Cast m ∷ es) = ap (cons_option (plan_in m.payload)) (plans_of_casts plan_in es)
-plans_of_casts plan_in (Deliver m ∷ es) = plans_of_casts plan_in es
+-- ---- an END that is delivered
+
+-- where an END stands with somebody, whoever has delivered its message has that END
+end_is_there : (setting : Setting) (s : GroupState) → IsConsistent setting s → (j k a : ℕ) (e : Event) (text : List ℕ)
+    → slice_get (stamped_lists setting s k) a ≡ Some e → (message_of e).payload ≡ text → HasDelivered setting s j (message_of e).name
+    → list_any (is_end_by text (message_of e).name.sender) (stamped_lists setting s j) ≡ true
+end_is_there setting s inv j k a e text at is_text had =
+    let (f, at_f, is_f) = get_map_from without_time (stamped_lists setting s j) had.index had.event had.stands in
+    let names : (message_of f).name ≡ (message_of e).name = sym (name_stays f) ∙ ap name_of is_f ∙ had.named in
+    let same : message_of f ≡ message_of e =
+    one_name_one_message setting.group.size (stamped_lists setting s) inv.together.stamped f e (j, had.index, at_f) (k, a, at) names in
+    any_of (is_end_by text (message_of e).name.sender) (stamped_lists setting s j) f (in_by_index (stamped_lists setting s j) had.index f at_f)
+    (both_hold (eqb (message_of f).name.sender (message_of e).name.sender) (bytes_eq text (message_of f).payload)
+    (eq-eqb (message_of f).name.sender (message_of e).name.sender (ap (λ (m : Message). m.name.sender) same))
+    (text_same text (message_of f).payload (sym (ap (λ (m : Message). m.payload) same ∙ is_text))))
+
+-- the four things that a begin asks for
+all_hold : (a b c d : Bool) → a ≡ false → b ≡ true → c ≡ true → d ≡ true → (not a && b && c && d) ≡ true
+all_hold a b c d no_a yes_b yes_c yes_d = rw (no_a, yes_b, yes_c, yes_d) refl
+
+-- nothing else is waited for
+pub nothing_else_is_waited_for : NothingElseIsWaitedFor
+nothing_else_is_waited_for g steps text plan k endable read waits listed last arrived =
+    all_hold (has_begun (succession the_rules g steps).begun k) (is_listed k plan) (list_all (λ l. list_any (is_end_by text l) (stamped_lists g.setting (succession the_rules g steps).group k)) plan.list)
+    (list_all (λ q. not (nat_lt plan.number q.number) || is_passed (succession the_rules g steps).begun text plan q) (own_plans g.plan_in (stamped_lists g.setting (succession the_rules g steps).group k)))
+    waits listed
+    (all_of (λ l. list_any (is_end_by text l) (stamped_lists g.setting (succession the_rules g steps).group k)) plan.list (λ l there. ended l there))
+    (all_of (λ q. not (nat_lt plan.number q.number) || is_passed (succession the_rules g steps).begun text plan q) (own_plans g.plan_in (stamped_lists g.setting (succession the_rules g steps).group k))
+    (λ q there. no_later q (leb-true q.number plan.number (each_of (λ (p : Plan). nat_le p.number plan.number) (own_plans g.plan_in (stamped_lists g.setting (succession the_rules g steps).group k)) q last there))))
+  where
+    so : SuccessionSo g (succession the_rules g steps)
+    so = successions_are_so g endable steps
+
+    no_later : (q : Plan) → q.number ≤ plan.number → (not (nat_lt plan.number q.number) || is_passed (succession the_rules g steps).begun text plan q) ≡ true
+    no_later q most = rw (le-ltb plan.number q.number most) refl
+
+    ended : (l : ℕ) → IsIn l plan.list → list_any (is_end_by text l) (stamped_lists g.setting (succession the_rules g steps).group k) ≡ true
+    ended l there =
+        let (end, closed) = arrived l (any_of (λ n. eqb n l) plan.list l there (eq-eqb l l refl)) in
+        let (x, at, named, says) = cast_from_erased g (stamped_lists g.setting (succession the_rules g steps).group) (succession the_rules g steps).begun so.succeeding l end.index end.name text end.stands in
+        let own : x.name.sender ≡ l =
+        (run_regular g.setting.group.size (causal_lists g.setting (succession the_rules g steps).group) (stamped_is_causal g.setting.group.size (stamped_lists g.setting (succession the_rules g steps).group) so.succeeding.run)).sound.casters
+        (record { member = l; index = end.index }) x.name (record { payload = text; stands = end.stands ∙ ap (λ (m : Name). Some (causal.Cast m text)) (sym named) }) in
+        let had : HasDelivered g.setting (succession the_rules g steps).group k x.name =
+        subst (HasDelivered g.setting (succession the_rules g steps).group k) (sym named) (((headline_holds g.setting (succession the_rules g steps).group so.consistent).delivered k end.name).1 closed) in
+        subst (λ (n : ℕ). list_any (is_end_by text n) (stamped_lists g.setting (succession the_rules g steps).group k) ≡ true) own
+        (end_is_there g.setting (succession the_rules g steps).group so.consistent k l end.index (Cast x) text at says had)
 
 -- ---- behind the rounds
 
@@ -162,20 +204,10 @@ module _ (g : EndableGroup) (endable : IsEndable g) (steps : List SuccessionStep
       let has : HasDelivered g.setting before.group k (message_of e).name =
       record { index = a; event = without_time e; stands = get_map without_time (stamped_lists g.setting before.group k) a e at; named = name_stays e } in
       let had : HasDelivered g.setting behind j (message_of e).name = all_have j k (message_of e).name lt_j lt_k live_j live_k has in
-      let (f, at_f, is_f) = get_map_from without_time (stamped_lists g.setting behind j) had.index had.event had.stands in
       let (more, goes_on, none) = quiet_events g.setting endable.is_setting before.group so.consistent (rounds_of g silent before) no_casts k in
       let at_behind : slice_get (stamped_lists g.setting behind k) a ≡ Some e =
       ap (λ (es : List Event). slice_get es a) goes_on ∙ get_left (stamped_lists g.setting before.group k) more a (slice_get_within (stamped_lists g.setting before.group k) a e at) ∙ at in
-      let names : (message_of f).name ≡ (message_of e).name = sym (name_stays f) ∙ ap name_of is_f ∙ had.named in
-      let same : message_of f ≡ message_of e =
-      one_name_one_message g.setting.group.size (stamped_lists g.setting behind) behind_so.together.stamped f e (j, had.index, at_f) (k, a, at_behind) names in
-      any_of (is_end_by text (message_of e).name.sender) (stamped_lists g.setting behind j) f (in_by_index (stamped_lists g.setting behind j) had.index f at_f)
-      (both_hold (eqb (message_of f).name.sender (message_of e).name.sender) (bytes_eq text (message_of f).payload)
-      (eq-eqb (message_of f).name.sender (message_of e).name.sender (ap (λ (m : Message). m.name.sender) same))
-      (text_same text (message_of f).payload (sym (ap (λ (m : Message). m.payload) same ∙ is_text))))
-    where
-      both_hold : (a b : Bool) → a ≡ true → b ≡ true → (a && b) ≡ true
-      both_hold a b yes_a yes_b = rw (yes_a, yes_b) refl
+      end_is_there g.setting behind behind_so j k a e text at_behind is_text had
 
   -- the own ENDs are those from before
   same_plans : (k : ℕ) → own_plans g.plan_in (stamped_lists g.setting behind k) ≡ own_plans g.plan_in (stamped_lists g.setting before.group k)
@@ -187,7 +219,7 @@ module _ (g : EndableGroup) (endable : IsEndable g) (steps : List SuccessionStep
       ∙ append-nil (casts_among (stamped_lists g.setting before.group k)))
       ∙ sym (plans_of_casts g.plan_in (stamped_lists g.setting before.group k))
 
-  -- the four things that a begin asks for
+  -- what a begin asks for
   may_now : (k : ℕ) (text : List ℕ) (plan : Plan) → has_begun before.begun k ≡ false → is_listed k plan ≡ true
       → ((l : ℕ) → IsIn l plan.list → list_any (is_end_by text l) (stamped_lists g.setting behind k) ≡ true)
       → ((q : Plan) → IsIn q (own_plans g.plan_in (stamped_lists g.setting before.group k)) → (not (nat_lt plan.number q.number) || is_passed before.begun text plan q) ≡ true)
@@ -199,10 +231,6 @@ module _ (g : EndableGroup) (endable : IsEndable g) (steps : List SuccessionStep
       waits listed (all_of (λ l. list_any (is_end_by text l) (stamped_lists g.setting behind k)) plan.list ended)
       (ap (list_all (λ q. not (nat_lt plan.number q.number) || is_passed before.begun text plan q)) (same_plans k)
       ∙ all_of (λ q. not (nat_lt plan.number q.number) || is_passed before.begun text plan q) (own_plans g.plan_in (stamped_lists g.setting before.group k)) passed))
-    where
-      all_hold : (a b c d : Bool) → a ≡ false → b ≡ true → c ≡ true → d ≡ true → (not a && b && c && d) ≡ true
-      all_hold a b c d no_a yes_b yes_c yes_d = rw (no_a, yes_b, yes_c, yes_d) refl
-
   -- each whom the plan lists has ended
   module _ (text : List ℕ) (plan : Plan) (read : g.plan_in text ≡ Some plan) (each : (l : ℕ) → is_listed l plan ≡ true → GoesOnBy g (succession the_rules g steps) silent text plan l) where
     is_in_list : (l : ℕ) → IsIn l plan.list → is_listed l plan ≡ true

@@ -24,3 +24,4 @@ pub mod SuccessionLaws
 pub mod SuccessionRounds
 pub mod SuccessionTraps
 pub mod SuccessionRestarts
+pub mod LeftOut

@@ -2,7 +2,7 @@
 use Rattle.std.specs.Prelude.{◌≡◌, ◌≢◌, ℕ, ◌<◌, Bool, true, false, not, ◌||◌, nat_le, nat_lt, List, ◌++◌, map, Some}
 use Rattle.std.specs.List.{list_all}
 use Rattle.cb_schedules.specs.Schedule.{Schedule}
-use Rattle.cb_schedules.specs.Messages.{stamped_lists, causal_lists}
+use Rattle.cb_schedules.specs.Messages.{stamped_lists, causal_lists, IsClosedArrival}
 use Rattle.cb_schedules.specs.Rounds.{FindNoneFull}
 use Rattle.cb_schedules.specs.HelpRounds.{help_rounds}
 use Rattle.cb_schedules.specs.HelpRoundLaws.{rounds_without}
@@ -56,3 +56,14 @@ WhoComesLateMayBegin =
     → silent < g.setting.group.size → ComesLate g (succession the_rules g steps) silent b k
     → FindNoneFull g.setting (succession the_rules g steps).group (rounds_of g silent (succession the_rules g steps))
     → MayBeginNow g (behind_rounds g silent steps) k b.text b.plan
+
+-- However many are silent: a member that a plan lists, that has cast no END of a greater number and has not begun, may begin as soon as the
+-- ENDs of all whom the plan lists have arrived there, with all that happened before them. Nothing else is waited for.
+abbrev pub NothingElseIsWaitedFor : Type 0
+NothingElseIsWaitedFor =
+    (g : EndableGroup) (steps : List SuccessionStep) (text : List ℕ) (plan : Plan) (k : ℕ) → IsEndable g → g.plan_in text ≡ Some plan
+    → has_begun (succession the_rules g steps).begun k ≡ false → is_listed k plan ≡ true
+    → list_all (λ q. nat_le q.number plan.number) (own_plans g.plan_in (stamped_lists g.setting (succession the_rules g steps).group k)) ≡ true
+    → ((l : ℕ) → is_listed l plan ≡ true → (end : HasEnded (causal_lists g.setting (succession the_rules g steps).group) l text)
+    × IsClosedArrival g.setting (succession the_rules g steps).group k end.name)
+    → MayBeginNow g (succession the_rules g steps) k text plan

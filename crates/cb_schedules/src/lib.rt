@@ -11,7 +11,7 @@
 mod laws;
 
 pub use laws::{
-    a_dead_member_is_not_needed_to_go_on, an_end_has_room, other_rules_are_wrong, successions_outlive_restarts, who_comes_late_comes_too,
+    a_dead_member_is_not_needed_to_go_on, an_end_has_room, nothing_else_is_waited_for, other_rules_are_wrong, successions_outlive_restarts, who_comes_late_comes_too, who_is_left_out_stays_within_a_window,
     a_few_rounds_of_cores_repair_whatever_was_lost, a_few_rounds_repair_whatever_was_lost,
     a_round_is_a_tick_of_each_and_its_arrivals, a_silent_sender_is_not_needed,
     arrivals_are_welcome, causal_broadcast_over_lossy_links, causal_broadcast_with_restarts,

@@ -1,12 +1,13 @@
 //! Groups that follow one another: those who go on end the old group at one cut, and nobody begins the next one beside them.
 
+ghost use Rattle.cb_schedules.specs.LeftOut.{WhoHearsNothingMoreStaysWithin};
 ghost use Rattle.cb_schedules.specs.SuccessionLaws.{CastsAreInTheCut, EachSuccession, EndsHaveRoom, ExactlyTheCutIsShown};
 ghost use Rattle.cb_schedules.specs.SuccessionLaws.{NobodyBeginsByALaterPlan, OneNumberHasOneText};
 ghost use Rattle.cb_schedules.specs.SuccessionLaws.{ShownListsGoOn, TheCutIsCausal, TheCutIsDelivered};
 ghost use Rattle.cb_schedules.specs.SuccessionLaws.{TheCutIsOneVector, TheLastListGoesOneWay, TheSameIsShown};
 ghost use Rattle.cb_schedules.specs.SuccessionLaws.{WhatWasShownIsInTheCut, WhoIsListedHasEnded};
 ghost use Rattle.cb_schedules.specs.SuccessionRestarts.{EachJournaledSuccession, WhatWasShownOutlivesRestarts};
-ghost use Rattle.cb_schedules.specs.SuccessionRounds.{ADeadMemberIsNotNeeded, WhoComesLateMayBegin};
+ghost use Rattle.cb_schedules.specs.SuccessionRounds.{ADeadMemberIsNotNeeded, NothingElseIsWaitedFor, WhoComesLateMayBegin};
 ghost use Rattle.cb_schedules.specs.SuccessionTraps.{Breaks, NoReserveLeavesNoRoom, cut_is_now, ends_once};
 ghost use Rattle.cb_schedules.specs.SuccessionTraps.{no_compare, shows_all, takes_older};
 
@@ -28,18 +29,18 @@ pub fn those_who_begin_have_the_same_cut()
     ensures kept { ShownListsGoOn }
 {}
 
-/// Where one whom a later plan lists has begun by an earlier one, nobody ever begins by the later one, whatever the lists are. Within a
-/// list one number has one text. So any two members who are in every list by which somebody began, as those of the last list are where
-/// lists shrink, began by the same plan.
+/// Once a member has begun, nobody ever begins by a later plan that lists it, whatever the lists are. Within a list one number has one
+/// text. Any two members that are in every list by which somebody began, as those of the last list are if lists shrink, began by the
+/// same plan.
 pub fn nobody_begins_beside_them()
     ensures one { EachSuccession NobodyBeginsByALaterPlan }
     ensures text { EachSuccession OneNumberHasOneText }
     ensures last { EachSuccession TheLastListGoesOneWay }
 {}
 
-/// Who has begun has delivered the whole cut: so when all of a list have begun, nobody of it lacks any message of the old group. And
-/// each whom the plan of a begin lists has cast that plan's END. So when somebody begins a third group by a plan of the second, each whom
-/// that plan lists has begun the second one, in which it cast that END, and the first group is not needed any more.
+/// A member that has begun has delivered the whole cut: when all of a list have begun, none of them lacks any message of the old group.
+/// Each member that the plan of a begin lists has cast that plan's END. As soon as somebody begins a third group by a plan of the second,
+/// each member that this plan lists has begun the second one, in which it cast that END, and nobody needs the first.
 pub fn the_old_group_is_not_needed()
     ensures delivered { EachSuccession TheCutIsDelivered }
     ensures listed { EachSuccession WhoIsListedHasEnded }
@@ -51,22 +52,28 @@ pub fn an_end_has_room()
     ensures { EachSuccession EndsHaveRoom }
 {}
 
-/// Where one member is silent, and each of those whom a plan lists has cast its END and none of a greater number, each of these may begin
-/// behind W rounds without it and W / 64 more, rounded up, in which no history is found full: whatever was lost before.
+/// One member may be silent. If each member that a plan lists has cast its END and none of a greater number, each of these may begin
+/// behind W rounds without the silent one and W / 64 more, rounded up, in which no history is found full: whatever was lost before.
 pub fn a_dead_member_is_not_needed_to_go_on()
     ensures { ADeadMemberIsNotNeeded }
 {}
 
-/// Where somebody has begun by an earlier plan, each other one whom that plan lists, and whose later plans list the one who began, may
-/// begin by it behind as many rounds without a silent member.
+/// However many are silent: a member that a plan lists, and that has ended by no later one, may begin as soon as the ENDs of all listed
+/// members have arrived there, with all that happened before them. No acknowledgement is waited for, nor anything of anybody else.
+pub fn nothing_else_is_waited_for()
+    ensures { NothingElseIsWaitedFor }
+{}
+
+/// Once somebody has begun by an earlier plan, each other member that this plan lists may begin by it too, behind as many rounds without
+/// a silent member, if each later plan that it ended by lists the one who began.
 pub fn who_comes_late_comes_too()
     ensures { WhoComesLateMayBegin }
 {}
 
-/// Other ways to decide are wrong, each by a list of steps. Where a member begins by an earlier plan without having heard anybody, or
-/// where each casts one END for good, two whom both plans list go two ways. Where the texts of plans of one number are not compared, two
-/// begin by two texts. Where all that was delivered is shown at the begin, or what the member's own time counts then, two who begin by
-/// one plan are shown different messages. And with no place kept a full window has no room for an END.
+/// Other ways to decide are wrong, each by a list of steps. Two members that both plans list go two ways, if a member begins by an earlier
+/// plan without having heard anybody, or if each casts one END for good. Two begin by two texts, if the texts of plans of one number are
+/// not compared. Two that begin by one plan are shown different messages, if all that was delivered is shown at the begin, or what the
+/// member's own time counts then. With no place kept a full window has no room for an END.
 pub fn other_rules_are_wrong()
     ensures takes_older { Breaks takes_older NobodyBeginsByALaterPlan }
     ensures ends_once { Breaks ends_once NobodyBeginsByALaterPlan }
@@ -77,9 +84,9 @@ pub fn other_rules_are_wrong()
 {}
 
 /// With journals all of this outlives restarts. Members enter their calls, write, send and end at any moment, and come back with what is
-/// written; a begin is made where all entries of its member are written, and is written itself before anything else happens. Then all
-/// laws above hold of what there is, after every list of such steps. Where a caller is shown written events alone, no step takes back what
-/// it was shown.
+/// written. A begin is made once all entries of its member are written, and is written itself before anything else happens. Then all
+/// laws above hold of what there is, after every list of such steps. No step takes back what a caller was shown, if it is shown written
+/// events alone.
 pub fn successions_outlive_restarts()
     ensures same { EachJournaledSuccession ExactlyTheCutIsShown }
     ensures alike { EachJournaledSuccession TheSameIsShown }
@@ -93,4 +100,10 @@ pub fn successions_outlive_restarts()
     ensures delivered { EachJournaledSuccession TheCutIsDelivered }
     ensures listed { EachJournaledSuccession WhoIsListedHasEnded }
     ensures kept { WhatWasShownOutlivesRestarts }
+{}
+
+/// A member that hears nothing more of another one from some moment on, as one that is left out hears nothing behind the END, has cast at
+/// most a window more than that one had delivered of it then, which the END's time counts.
+pub fn who_is_left_out_stays_within_a_window()
+    ensures { WhoHearsNothingMoreStaysWithin }
 {}
