@@ -1,18 +1,17 @@
 -- Groups that follow one another are one run.
 use Rattle.std.specs.Prelude.{slice_get, count_by}
-use Rattle.std.specs.List.{position_or_len}
-use Rattle.std.proofs.Common.{◌≡◌, ◌≢◌, ℕ, zero, suc, ◌+◌, ◌-◌, ◌<◌, ◌≤◌, ◌⊎◌, ◌↔◌, Bool, true, false, cond, eqb, inl, inr, List, [], ◌∷◌, ◌++◌, length, take, map, get_or, Some, refl, sym, ◌∙◌, ap, ap₂, subst, arith, append-nil, append_assoc, length-append, eq-eqb, ne_eqb, eqb-true}
-use Rattle.std.proofs.lemmas.Bool.{cases_Bool, cases_eq, cases_order, cases_lt}
+use Rattle.std.proofs.Common.{◌≡◌, ◌≢◌, ℕ, suc, ◌+◌, ◌-◌, ◌<◌, ◌≤◌, ◌⊎◌, Bool, eqb, inl, inr, List, [], ◌∷◌, ◌++◌, length, map, Some, refl, sym, ◌∙◌, ap, ap₂, subst, arith, append-nil, append_assoc, length-append, eqb-true}
+use Rattle.std.proofs.lemmas.Bool.{cases_eq, cases_lt}
 use Rattle.std.proofs.lemmas.List.{map_push, length-map}
 use Rattle.std.proofs.lemmas.List.Sums.{passes_at_first}
 use Rattle.std.proofs.lemmas.Option.{slice_get_within}
 use Rattle.cb_times.specs.declared.name.Name.{Name}
 use Rattle.cb_causality.specs.declared.event.CausalEvent.{CausalEvent}
 use Rattle.cb_causality.specs.declared.event.CausalEvent.TheVariants.{Cast, Deliver}
-use Rattle.cb_causality.specs.Events.{name_of, payload_of, is_cast, is_of, count, casts_of, next_name, Has}
-use Rattle.cb_causality.specs.HappenedBefore.{Lists, Place, event_at, IsPlace, IsCastAt, IsDeliveryAt, Edge, Later, Message, Path, One, On, HappenedBefore}
-use Rattle.cb_causality.specs.CausalMachine.{MayDeliver, Step, Casts, Delivers, Run, Start, Then}
-use Rattle.cb_causality.specs.Lists.{Appends, Agree}
+use Rattle.cb_causality.specs.Events.{name_of, is_cast, casts_of, next_name, Has}
+use Rattle.cb_causality.specs.HappenedBefore.{Lists, Place, IsCastAt, IsDeliveryAt, Edge, Later, Message, Path, One, On, HappenedBefore}
+use Rattle.cb_causality.specs.CausalMachine.{MayDeliver, Casts, Delivers, Run, Start, Then}
+use Rattle.cb_causality.specs.Lists.{Appends}
 use Rattle.cb_causality.specs.Following.{IsCast, person_of, number_in, name_behind, event_behind, put_behind, MayFollow, ComesBehind, KeepsTheOrderInside, KeepsTheOrderBefore}
 use Rattle.cb_causality.proofs.Agreement.{depends_on_lists_alone}
 use Rattle.cb_causality.proofs.Counting.{get_left, count-cons, count-map, get_map, get_map_from}
@@ -261,24 +260,31 @@ module _ (size : ℕ) (earlier : Lists) (persons : List ℕ) (run : Run size ear
         → ((j : ℕ) × Has (earlier j) a) ⊎ ((x : Name) × (name_behind persons earlier x ≡ a) × HappenedBefore next x m)
     past_inside a m in_m h =
         elim (cases_lt h.from.index (length (earlier h.from.member))) [
-          | inl less ↦ inl (h.from.member, record {
-            index = h.from.index;
-            event = Cast a h.cast_earlier.payload;
-            stands = stood_before h.from.member h.from.index (Cast a h.cast_earlier.payload) h.cast_earlier.stands less;
-            named = refl;
-          })
+          | inl less ↦ inl (
+            h.from.member,
+            record {
+              index = h.from.index;
+              event = Cast a h.cast_earlier.payload;
+              stands = stood_before h.from.member h.from.index (Cast a h.cast_earlier.payload) h.cast_earlier.stands less;
+              named = refl;
+            },
+          )
           | inr past ↦
               let (behind, path) = path_inside h.path past in
               let (x, cast_x, same_x) = cast_inside h.from a h.cast_earlier past in
               let (y, cast_y, same_y) = cast_inside h.to (name_behind persons earlier m) h.cast_later behind in
               let names : y ≡ m = one_behind y m (cast_inside_group (place_inside h.to) y cast_y) in_m same_y in
-              inr (x, same_x, record {
-                from = place_inside h.from;
-                to = place_inside h.to;
-                cast_earlier = cast_x;
-                cast_later = subst (λ (z : Name). IsCastAt next (place_inside h.to) z) names cast_y;
-                path = path;
-              })
+              inr (
+                x,
+                same_x,
+                record {
+                  from = place_inside h.from;
+                  to = place_inside h.to;
+                  cast_earlier = cast_x;
+                  cast_later = subst (λ (z : Name). IsCastAt next (place_inside h.to) z) names cast_y;
+                  path = path;
+                },
+              )
         ]
 
     -- edges of the next group lead between what was put behind

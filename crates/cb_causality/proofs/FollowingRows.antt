@@ -1,12 +1,11 @@
 -- Worked groups that follow one another.
-use Rattle.std.proofs.Common.{◌≡◌, ℕ, Bool, true, false, not, ◌&&◌, eqb, List, [], ◌∷◌, map, refl}
+use Rattle.std.proofs.Common.{◌≡◌, ℕ, Bool, not, ◌&&◌, eqb, [], ◌∷◌, map, refl}
 use Rattle.cb_times.specs.declared.name.Name.{Name}
-use Rattle.cb_causality.specs.declared.event.CausalEvent.{CausalEvent}
 use Rattle.cb_causality.specs.declared.event.CausalEvent.TheVariants.{Cast, Deliver}
 use Rattle.cb_causality.specs.HappenedBefore.{Lists}
 use Rattle.cb_causality.specs.Lists.{lists_in}
 use Rattle.cb_causality.specs.Parts.{part}
-use Rattle.cb_causality.specs.Following.{name_behind, put_behind, with_newcomers, with_groups}
+use Rattle.cb_causality.specs.Following.{name_behind, with_newcomers, with_groups}
 
 abbrev name : ℕ → ℕ → Name
 name sender number = record { sender = sender; number = number }
@@ -14,11 +13,11 @@ name sender number = record { sender = sender; number = number }
 -- Member 0 cast 0.1 and 0.2, and is dead. Members 1 and 2 have 0.1, and member 1 cast 1.1 behind it. Nobody else has 0.2.
 abbrev old : Lists
 old = lists_in (
-  (Cast (name 0 1) [] ∷ Cast (name 0 2) [] ∷ [])
-  ∷ (Deliver (name 0 1) [] ∷ Cast (name 1 1) [] ∷ [])
-  ∷ (Deliver (name 0 1) [] ∷ Deliver (name 1 1) [] ∷ [])
-  ∷ []
-)
+    (Cast (name 0 1) [] ∷ Cast (name 0 2) [] ∷ [])
+    ∷ (Deliver (name 0 1) [] ∷ Cast (name 1 1) [] ∷ [])
+    ∷ (Deliver (name 0 1) [] ∷ Deliver (name 1 1) [] ∷ [])
+    ∷ []
+    )
 
 -- all but 0.2
 abbrev in_cut : Name → Bool
@@ -34,11 +33,11 @@ what_the_newcomer_is_shown = refl
 -- The next group: persons 1, 2 and 3 are its members 0, 1 and 2. Its member 0 casts, and member 2 answers.
 abbrev next : Lists
 next = lists_in (
-  (Cast (name 0 1) [] ∷ Deliver (name 2 1) [] ∷ [])
-  ∷ []
-  ∷ (Deliver (name 0 1) [] ∷ Cast (name 2 1) [] ∷ [])
-  ∷ []
-)
+    (Cast (name 0 1) [] ∷ Deliver (name 2 1) [] ∷ [])
+    ∷ []
+    ∷ (Deliver (name 0 1) [] ∷ Cast (name 2 1) [] ∷ [])
+    ∷ []
+    )
 
 abbrev all_of_it : Lists
 all_of_it = with_groups (record { newcomers = record { person = 3; after = 2 } ∷ []; persons = 1 ∷ 2 ∷ 3 ∷ []; lists = next } ∷ []) (part in_cut old)

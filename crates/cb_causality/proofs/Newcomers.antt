@@ -1,24 +1,22 @@
--- Who comes is shown what another has, in its order: that is a run. And so any number of groups that follow one another are one.
+-- A newcomer is shown what another person has, in its order: that is a run. Any number of groups that follow one another are one run.
 use Rattle.std.specs.Prelude.{slice_get}
-use Rattle.std.proofs.Common.{◌≡◌, ◌≢◌, ℕ, zero, suc, ◌+◌, ◌<◌, ◌≤◌, Bool, true, cond, eqb, inl, inr, List, [], ◌∷◌, ◌++◌, length, take, map, Some, refl, sym, ◌∙◌, ap, subst, arith, eq-eqb, ne_eqb}
-use Rattle.std.proofs.lemmas.Bool.{cases_eq, cases_order, cases_lt}
+use Rattle.std.proofs.Common.{◌≡◌, ◌≢◌, ℕ, zero, suc, ◌+◌, ◌<◌, ◌≤◌, cond, eqb, inl, inr, List, [], ◌∷◌, ◌++◌, length, take, map, Some, refl, sym, ◌∙◌, ap, subst, arith, eq-eqb, ne_eqb}
+use Rattle.std.proofs.lemmas.Bool.{cases_eq}
 use Rattle.std.proofs.lemmas.List.{map_push}
-use Rattle.std.proofs.lemmas.Option.{slice_get_within}
 use Rattle.cb_times.specs.declared.name.Name.{Name}
 use Rattle.cb_causality.specs.declared.event.CausalEvent.{CausalEvent}
 use Rattle.cb_causality.specs.declared.event.CausalEvent.TheVariants.{Cast, Deliver}
-use Rattle.cb_causality.specs.CausalGroup.{HasPastOf}
 use Rattle.cb_causality.specs.Events.{name_of, payload_of, is_of, count, Has}
 use Rattle.cb_causality.specs.HappenedBefore.{Lists, Place, IsCastAt, IsDeliveryAt}
 use Rattle.cb_causality.specs.CausalMachine.{MayDeliver, Delivers, Run, Then}
 use Rattle.cb_causality.specs.Lists.{Appends}
-use Rattle.cb_causality.specs.Following.{Newcomer, as_delivery, with_newcomer, with_newcomers, MayCome, MayAllCome, NextGroup, with_group, with_groups, GroupFollows, GroupsFollow, FollowingGroupsAreOneRun, IsCast}
+use Rattle.cb_causality.specs.Following.{Newcomer, as_delivery, with_newcomer, with_newcomers, MayCome, MayAllCome, with_group, FollowingGroupsAreOneRun, IsCast}
 use Rattle.cb_causality.proofs.Agreement.{depends_on_lists_alone}
 use Rattle.cb_causality.proofs.Clock.{clock}
 use Rattle.cb_causality.proofs.Counting.{count_once, get_map_from, get_map, get_take, get_take_from, take_whole}
 use Rattle.cb_causality.proofs.Deliverable.{past_is_deliverable}
 use Rattle.cb_causality.proofs.Following.{had_is_cast, put_behind_runs}
-use Rattle.cb_causality.proofs.Names.{IsSound, number_within, stands_within, named, cast_once}
+use Rattle.cb_causality.proofs.Names.{IsSound, number_within, stands_within, cast_once}
 use Rattle.cb_causality.proofs.OneMessage.{one_name_one_payload}
 use Rattle.cb_causality.proofs.Parts.{some_at}
 use Rattle.cb_causality.proofs.Runs.{IsRegular, run_regular}

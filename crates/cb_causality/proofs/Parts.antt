@@ -1,6 +1,6 @@
 -- A closed part of a run is a run.
 use Rattle.std.specs.Prelude.{slice_get, count_by, filter}
-use Rattle.std.proofs.Common.{◌≡◌, ◌≢◌, ℕ, zero, suc, ◌+◌, ◌<◌, ◌≤◌, ◌↔◌, Bool, true, false, cond, inl, inr, List, [], ◌∷◌, ◌++◌, length, take, Some, refl, sym, ◌∙◌, ap, subst, arith, append-nil}
+use Rattle.std.proofs.Common.{◌≡◌, ℕ, zero, suc, ◌+◌, ◌<◌, Bool, true, false, cond, inl, inr, List, [], ◌∷◌, ◌++◌, length, Some, refl, sym, ◌∙◌, ap, subst, arith, append-nil}
 use Rattle.std.proofs.lemmas.Bool.{cases_Bool, cases_eq, cases_order}
 use Rattle.std.proofs.lemmas.List.Elements.{filter-append}
 use Rattle.std.proofs.lemmas.Option.{slice_get_within}
@@ -8,14 +8,13 @@ use Rattle.cb_times.specs.declared.name.Name.{Name}
 use Rattle.cb_causality.specs.declared.event.CausalEvent.{CausalEvent}
 use Rattle.cb_causality.specs.declared.event.CausalEvent.TheVariants.{Cast, Deliver}
 use Rattle.cb_causality.specs.Events.{name_of, is_cast, casts_of, next_name, Has}
-use Rattle.cb_causality.specs.HappenedBefore.{Lists, Place, IsPlace, IsCastAt, IsDeliveryAt, Edge, Later, Message, Path, One, On, HappenedBefore}
-use Rattle.cb_causality.specs.CausalMachine.{MayDeliver, Step, Casts, Delivers, Run, Start, Then}
+use Rattle.cb_causality.specs.HappenedBefore.{Lists, Place, IsCastAt, IsDeliveryAt, Edge, Later, Message, Path, One, On, HappenedBefore}
+use Rattle.cb_causality.specs.CausalMachine.{MayDeliver, Casts, Delivers, Run, Start, Then}
 use Rattle.cb_causality.specs.Lists.{Appends, Agree}
 use Rattle.cb_causality.specs.Parts.{part, IsClosedPart, ClosedPartsAreRuns, ClosedPartsKeepThePast}
 use Rattle.cb_causality.proofs.Agreement.{depends_on_lists_alone}
 use Rattle.cb_causality.proofs.Counting.{count-cons}
 use Rattle.cb_causality.proofs.Places.{is_place, cast_stays, path_stays, old_stays, new_stands}
-use Rattle.cb_causality.proofs.Names.{IsSound}
 use Rattle.cb_causality.proofs.Runs.{IsRegular, run_regular}
 
 -- ---- places in a list of which some elements are kept

@@ -1,21 +1,20 @@
--- Where a message stands in a list, all that happened before it stands before it; and what stands before a cast happened before it.
+-- All that happened before a message stands before it in each list that has it, and all that stands before a cast happened before it.
 use Rattle.std.specs.Prelude.{slice_get}
-use Rattle.std.proofs.Common.{◌≡◌, ℕ, suc, ◌<◌, ◌≤◌, ◌⊎◌, inl, inr, List, length, take, Some, refl, sym, ◌∙◌, ap, subst, arith}
+use Rattle.std.proofs.Common.{◌≡◌, ℕ, suc, ◌<◌, ◌≤◌, inl, inr, List, take, Some, sym, ◌∙◌, ap, subst, arith}
 use Rattle.std.proofs.lemmas.Bool.{cases_eq}
-use Rattle.std.proofs.lemmas.Option.{slice_get_within}
 use Rattle.cb_times.specs.declared.name.Name.{Name}
 use Rattle.cb_delay.specs.Message.{message_of}
 use Rattle.cb_delay.specs.declared.message.Event.{Event}
 use Rattle.cb_delay.specs.declared.message.Event.TheVariants as stamped
 use Rattle.cb_causality.specs.declared.event.CausalEvent.{CausalEvent}
 use Rattle.cb_causality.specs.declared.event.CausalEvent.TheVariants.{Cast, Deliver}
-use Rattle.cb_causality.specs.Events.{name_of, count, Has}
-use Rattle.cb_causality.specs.HappenedBefore.{Lists, Place, IsCastAt, IsDeliveryAt, HappenedBefore}
+use Rattle.cb_causality.specs.Events.{name_of, count}
+use Rattle.cb_causality.specs.HappenedBefore.{Lists, IsDeliveryAt, HappenedBefore}
 use Rattle.cb_causality.specs.Laws.{IsOrPrecedes}
 use Rattle.cb_causality.specs.StampedMachine.{StampedLists, StampedRun, erased, without_time}
 use Rattle.cb_causality.proofs.Clock.{clock, counted_is_past, past_is_counted}
 use Rattle.cb_causality.proofs.Counting.{get_map, get_take_from}
-use Rattle.cb_causality.proofs.Names.{IsSound, named, number_within, stands_within, cast_number}
+use Rattle.cb_causality.proofs.Names.{IsSound, number_within, stands_within, cast_number}
 use Rattle.cb_causality.proofs.OneMessage.{message_is_cast}
 use Rattle.cb_causality.proofs.Runs.{IsRegular, run_regular, regular_irreflexive}
 use Rattle.cb_causality.proofs.Stamps.{stamped_is_causal}

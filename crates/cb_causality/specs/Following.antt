@@ -1,5 +1,5 @@
 -- Runs of groups that follow one another, as one run of all persons who were ever in one of them.
-use Rattle.std.specs.Prelude.{◌≡◌, ◌≢◌, ◌↔◌, ℕ, ◌+◌, ◌<◌, ◌==◌, List, [], ◌∷◌, ◌++◌, length, map, get_or, if◌then◌else◌}
+use Rattle.std.specs.Prelude.{◌≡◌, ◌↔◌, ℕ, ◌+◌, ◌<◌, ◌==◌, List, [], ◌∷◌, ◌++◌, length, map, get_or, if◌then◌else◌}
 use Rattle.std.specs.List.{position_or_len}
 use Rattle.cb_times.specs.declared.name.Name.{Name}
 use Rattle.cb_causality.specs.declared.event.CausalEvent.{CausalEvent}

@@ -1,9 +1,8 @@
 -- Lists of events with ENDs among them.
 use Rattle.std.specs.Prelude.{slice_get, is_some, bytes_eq}
 use Rattle.std.specs.List.{filter, filter_map, list_any, cons_option}
-use Rattle.std.proofs.Common.{◌≡◌, ℕ, zero, suc, ◌+◌, ◌<◌, ◌≤◌, ◌⊎◌, ◌&&◌, Bool, true, false, cond, eqb, inl, inr, Option, List, [], ◌∷◌, ◌++◌, length, map, max, Some, None, refl, sym, ◌∙◌, ap, subst, arith, append-nil}
+use Rattle.std.proofs.Common.{◌≡◌, ℕ, zero, suc, ◌+◌, ◌<◌, ◌≤◌, ◌⊎◌, ◌&&◌, Bool, true, false, eqb, inl, inr, Option, List, [], ◌∷◌, ◌++◌, length, map, Some, None, refl, sym, ◌∙◌, ap, subst, arith}
 use Rattle.std.proofs.lemmas.Bool.{cases_Bool, cases_lt, cond_both, and_parts, eqb-true, both_ways}
-use Rattle.std.proofs.lemmas.Option.{slice_get_within}
 use Rattle.std.proofs.lemmas.Slice.Eq.{bytes_eq-Decides}
 use Rattle.cb_times.specs.Order.{field}
 use Rattle.cb_delay.specs.declared.message.Message.{Message}
@@ -14,7 +13,7 @@ use Rattle.cb_history.specs.EventLaws.{casts_among, carried_in}
 use Rattle.cb_frames.specs.Fields.{Carried}
 use Rattle.cb_history.specs.Known.{greatest_of}
 use Rattle.cb_history.proofs.Views.{IsIn, filter_in, in_filter}
-use Rattle.cb_schedules.specs.Succession.{Plan, Reading, is_listed, own_plan, is_own_end, own_plans, is_end_by, is_end_in, upto_end, behind_end, cut_field, Begin}
+use Rattle.cb_schedules.specs.Succession.{Plan, Reading, is_listed, own_plan, is_own_end, own_plans, is_end_by, is_end_in, upto_end, behind_end, cut_field}
 use Rattle.cb_schedules.proofs.Lists.{index_of, in_by_index, in_any}
 
 -- ---- lists

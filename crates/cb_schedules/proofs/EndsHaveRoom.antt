@@ -1,35 +1,31 @@
 -- The places that are kept leave room for an END.
-use Rattle.std.specs.Prelude.{slice_get, is_none, nat_le, nat_lt, not}
-use Rattle.std.specs.List.{list_all, filter_map, cons_option}
-use Rattle.std.proofs.Common.{◌≡◌, ℕ, zero, suc, ◌+◌, ◌<◌, ◌≤◌, ◌⊎◌, ◌&&◌, ◌||◌, Bool, true, false, cond, eqb, ltb, inl, inr, Option, List, [], ◌∷◌, ◌++◌, length, map, Some, None, refl, sym, ◌∙◌, ap, subst, arith, append-nil, append_assoc, length-append}
-use Rattle.std.proofs.lemmas.Bool.{cases_Bool, cases_eq, cond_both, and_parts, leb-true, le-ltb}
+use Rattle.std.specs.List.{filter_map, cons_option}
+use Rattle.std.proofs.Common.{◌≡◌, ℕ, suc, ◌+◌, ◌<◌, ◌≤◌, ◌⊎◌, true, false, eqb, ltb, inl, inr, Option, List, [], ◌∷◌, ◌++◌, length, map, Some, None, refl, sym, ◌∙◌, ap, subst, arith, append-nil, append_assoc, length-append}
+use Rattle.std.proofs.lemmas.Bool.{cases_Bool, cases_eq, cond_both, leb-true, le-ltb}
 use Rattle.std.proofs.lemmas.List.Elements.{filter_map-append}
 use Rattle.cb_frames.specs.declared.frame.TheConstants.{LAST_NUMBER}
 use Rattle.cb_frames.specs.Fields.{Load, One, payloads_of, CastFields, Carried, messages_of, numbered}
 use Rattle.cb_delay.specs.declared.message.Event.{Event}
-use Rattle.cb_delay.specs.declared.message.Event.TheVariants.{Cast, Deliver}
-use Rattle.cb_delay.specs.Message.{message_of}
-use Rattle.cb_causality.specs.Lists.{Appends, Agree}
-use Rattle.cb_history.specs.EventLaws.{casts_among, carried_in}
-use Rattle.cb_history.specs.Events.{event_in, events}
+use Rattle.cb_history.specs.EventLaws.{casts_among}
+use Rattle.cb_history.specs.Events.{event_in}
 use Rattle.cb_history.specs.Facts.{EntryFields, Fact, said_by, facts_of, casts_in, messages_in}
 use Rattle.cb_history.specs.Group.{Identity}
 use Rattle.cb_history.specs.Known.{stable}
-use Rattle.cb_history.specs.Answers.{delivered, own_casts, is_too_many, is_window_full}
+use Rattle.cb_history.specs.Answers.{delivered, own_casts, is_too_many}
 use Rattle.cb_history.specs.View.{count, view}
 use Rattle.cb_history.proofs.Lists.{flat_map-append}
 use Rattle.cb_history.proofs.Rising.{nothing_falls}
-use Rattle.cb_schedules.specs.Schedule.{Setting, IsSetting, seat_at, Step, CastStep, ArriveStep, TickStep, HelpStep, GroupState, step_after}
+use Rattle.cb_schedules.specs.Schedule.{Setting, seat_at, Step, CastStep, ArriveStep, TickStep, HelpStep, GroupState, step_after}
 use Rattle.cb_schedules.specs.Messages.{facts_at, stamped_lists}
 use Rattle.cb_schedules.specs.Consistent.{IsConsistent}
 use Rattle.cb_schedules.specs.RoundLaws.{IsNoCastStep}
 use Rattle.cb_schedules.specs.StepLaws.{HistoriesGoOn, NoEntry, OneEntry}
-use Rattle.cb_schedules.specs.Succession.{Plan, Reading, EndableGroup, IsEndable, own_plan, own_plans, may_talk, may_end, may_begin, leaves_out, the_rules, SuccessionStep, Happens, Ends, Begins, SuccessionState, and_happens, and_ends, and_begins, succession_step, succession_from, nobody_yet, succession}
+use Rattle.cb_schedules.specs.Succession.{Plan, EndableGroup, IsEndable, own_plan, own_plans, may_talk, may_end, may_begin, the_rules, SuccessionStep, Happens, Ends, Begins, SuccessionState, and_happens, and_ends, and_begins, succession_step, succession_from, nobody_yet, succession}
 use Rattle.cb_schedules.specs.SuccessionLaws.{EndsHaveRoom, EachSuccession}
 use Rattle.cb_schedules.proofs.EndLists.{casts_of_both, plans_of_casts}
 use Rattle.cb_schedules.proofs.Later.{MoreFacts, own_casts-append, step_is_later}
 use Rattle.cb_schedules.proofs.StepByStep.{histories_go_on}
-use Rattle.cb_schedules.proofs.SuccessionSteps.{SuccessionSo, OwnMore, cast_step_adds, messages_are, more_of, may_talk_asks, step_is_so, successions_are_so, nobody_is_so}
+use Rattle.cb_schedules.proofs.SuccessionSteps.{SuccessionSo, OwnMore, cast_step_adds, messages_are, more_of, may_talk_asks, step_is_so, nobody_is_so}
 
 -- ---- what is counted
 

@@ -1,21 +1,20 @@
--- Who hears nothing more of a member stays within a window of what that one had delivered.
+-- A member that hears nothing more of another one stays within a window of what that one had delivered.
 use Rattle.std.specs.Prelude.{slice_get}
 use Rattle.std.specs.List.{flat_map}
-use Rattle.std.proofs.Common.{◌≡◌, ◌≢◌, ℕ, zero, suc, ◌+◌, ◌<◌, ◌≤◌, ◌⊎◌, Bool, true, cond, eqb, inl, inr, List, [], ◌∷◌, ◌++◌, length, take, max, Some, Ok, refl, sym, ◌∙◌, ap, subst, arith, append-nil, append_assoc, eqb-true}
-use Rattle.std.proofs.lemmas.Bool.{cond_both, cases_lt}
+use Rattle.std.proofs.Common.{◌≡◌, ◌≢◌, ℕ, zero, suc, ◌+◌, ◌<◌, ◌≤◌, Bool, true, cond, eqb, inl, inr, List, [], ◌∷◌, ◌++◌, length, take, Some, refl, sym, ◌∙◌, ap, subst, arith, append-nil, append_assoc, eqb-true}
+use Rattle.std.proofs.lemmas.Bool.{cond_both}
 use Rattle.cb_times.specs.Order.{field}
-use Rattle.cb_times.specs.declared.name.Name.{Name}
-use Rattle.cb_frames.specs.Fields.{CastFields, StatusFields, StatusFrame, Carried}
+use Rattle.cb_frames.specs.Fields.{StatusFields}
 use Rattle.cb_delay.specs.declared.message.Message.{Message}
 use Rattle.cb_delay.specs.declared.message.Event.{Event}
 use Rattle.cb_delay.specs.declared.message.Event.TheVariants.{Cast, Deliver}
 use Rattle.cb_delay.specs.Message.{message_of}
-use Rattle.cb_causality.specs.Events.{name_of, count, Has}
+use Rattle.cb_causality.specs.Events.{count, Has}
 use Rattle.cb_causality.specs.Laws.{IsOrPrecedes}
-use Rattle.cb_causality.specs.StampedMachine.{StampedLists, erased, without_time, without_times, counts_of}
-use Rattle.cb_causality.proofs.Counting.{get_left, get_map, take_whole, count_mono, get_take_from}
+use Rattle.cb_causality.specs.StampedMachine.{erased, without_time, without_times}
+use Rattle.cb_causality.proofs.Counting.{get_map, count_mono}
 use Rattle.cb_causality.proofs.Extending.{stamped_extends_runs}
-use Rattle.cb_causality.proofs.Names.{number_of_had, number_within}
+use Rattle.cb_causality.proofs.Names.{number_of_had}
 use Rattle.cb_causality.proofs.PastStands.{stands_up_to, cast_at_sender}
 use Rattle.cb_causality.proofs.Runs.{IsRegular, run_regular}
 use Rattle.cb_causality.proofs.Stamps.{stamped_is_causal, times_count_the_past, name_stays}
@@ -25,16 +24,15 @@ use Rattle.cb_history.specs.Facts.{Fact, OwnCast, CastReceived, StatusReceived, 
 use Rattle.cb_history.specs.Known.{greatest_of, value_in, reported_by, counted_by, acknowledged_of, acknowledged_by, stable_of, stable}
 use Rattle.cb_history.specs.Answers.{delivered}
 use Rattle.cb_history.specs.View.{view, message_in}
-use Rattle.cb_history.proofs.Views.{IsIn}
 use Rattle.cb_history.proofs.EverySender.{stable_of_me}
 use Rattle.cb_history.proofs.Keeping.{least_at_most, others_of, other_in}
 use Rattle.cb_history.proofs.Rising.{greatest_append, all_at_most}
 use Rattle.cb_history.proofs.Windows.{own_casts_are_near_stable}
-use Rattle.cb_schedules.specs.Schedule.{Setting, IsSetting, seat_at, Schedule, SentFrame, GroupState, step_after, run_from}
+use Rattle.cb_schedules.specs.Schedule.{Setting, IsSetting, seat_at, Schedule, GroupState, step_after, run_from}
 use Rattle.cb_schedules.specs.Messages.{facts_at, stamped_lists}
 use Rattle.cb_schedules.specs.Consistent.{IsConsistent}
-use Rattle.cb_schedules.specs.Succession.{EndableGroup, IsEndable, the_rules, SuccessionStep, SuccessionState, succession_step, succession_from, nobody_yet, succession}
-use Rattle.cb_schedules.specs.LeftOut.{HearsNothingMore, WhoHearsNothingMoreStaysWithin}
+use Rattle.cb_schedules.specs.Succession.{EndableGroup, the_rules, SuccessionStep, SuccessionState, succession_step, succession_from, nobody_yet, succession}
+use Rattle.cb_schedules.specs.LeftOut.{WhoHearsNothingMoreStaysWithin}
 use Rattle.cb_schedules.proofs.Courses.{step_goes_on}
 use Rattle.cb_schedules.proofs.EndLists.{get_two}
 use Rattle.cb_history.proofs.Delivering.{in_field}

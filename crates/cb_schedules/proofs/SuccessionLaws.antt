@@ -1,9 +1,8 @@
 -- Those who begin by one plan have the same cut, and nobody begins beside them: from what is so of all members' lists and of the begins.
-use Rattle.std.specs.Prelude.{slice_get, is_some, bytes_eq, nat_le, nat_lt, not}
+use Rattle.std.specs.Prelude.{slice_get, bytes_eq, nat_le, nat_lt, not}
 use Rattle.std.specs.List.{filter, list_any, list_all, flat_map}
-use Rattle.std.proofs.Common.{◌≡◌, ℕ, zero, suc, ◌+◌, ◌<◌, ◌≤◌, ◌⊎◌, ◌↔◌, ◌&&◌, ◌||◌, Bool, true, false, cond, eqb, inl, inr, Option, List, [], ◌∷◌, ◌++◌, length, take, map, Some, None, refl, sym, ◌∙◌, ap, ap₂, subst, arith, append-nil}
-use Rattle.std.proofs.lemmas.Bool.{cases_Bool, cases_eq, cases_lt, cases_order, and_parts, and_from, eqb-true, eq-eqb, le-leb, leb-true, lt-ltb, ltb-true, or_cases, both_ways}
-use Rattle.std.proofs.lemmas.List.{map-append}
+use Rattle.std.proofs.Common.{◌≡◌, ℕ, zero, suc, ◌+◌, ◌<◌, ◌≤◌, ◌⊎◌, ◌↔◌, ◌&&◌, ◌||◌, Bool, true, false, eqb, inl, inr, List, [], ◌∷◌, ◌++◌, length, take, Some, refl, sym, ◌∙◌, ap, ap₂, subst, arith, append-nil}
+use Rattle.std.proofs.lemmas.Bool.{cases_Bool, cases_lt, cases_order, and_parts, eqb-true, eq-eqb, le-leb, leb-true, lt-ltb, or_cases, both_ways}
 use Rattle.std.proofs.lemmas.List.Elements.{filter-append}
 use Rattle.std.proofs.lemmas.Option.{slice_get_within}
 use Rattle.cb_times.specs.Order.{field}
@@ -15,27 +14,26 @@ use Rattle.cb_delay.specs.Message.{message_of}
 use Rattle.cb_causality.specs.declared.event.CausalEvent.{CausalEvent}
 use Rattle.cb_causality.specs.declared.event.CausalEvent.TheVariants as causal
 use Rattle.cb_causality.specs.Events.{name_of, Has}
-use Rattle.cb_causality.specs.HappenedBefore.{Lists, Place, IsCastAt, IsDeliveryAt, HappenedBefore}
+use Rattle.cb_causality.specs.HappenedBefore.{Lists, HappenedBefore}
 use Rattle.cb_causality.specs.Laws.{IsOrPrecedes}
 use Rattle.cb_causality.specs.CausalMachine.{Run}
 use Rattle.cb_causality.specs.Parts.{part, IsClosedPart}
-use Rattle.cb_causality.specs.StampedMachine.{StampedLists, StampedRun, erased, without_time, without_times, IsTimeOf}
+use Rattle.cb_causality.specs.StampedMachine.{StampedLists, StampedRun, erased, without_time, without_times}
 use Rattle.cb_causality.proofs.Agreement.{depends_on_lists_alone}
 use Rattle.cb_causality.proofs.Counting.{get_left, get_map, get_map_from, get_take, get_take_from}
 use Rattle.cb_causality.proofs.Following.{get_right}
-use Rattle.cb_causality.proofs.Names.{IsSound, number_of_had, cast_number}
+use Rattle.cb_causality.proofs.Names.{number_of_had, cast_number}
 use Rattle.cb_causality.proofs.Newcomers.{once_in_list}
-use Rattle.cb_causality.proofs.Parts.{closed_parts_are_runs, kept_stood, kept_stands}
+use Rattle.cb_causality.proofs.Parts.{closed_parts_are_runs}
 use Rattle.cb_causality.proofs.PastStands.{stands_up_to, precedes_cast, cast_at_sender}
 use Rattle.cb_causality.proofs.Runs.{IsRegular, run_regular, regular_transitive}
 use Rattle.cb_causality.proofs.Stamps.{stamped_is_causal, times_count_the_past, name_stays}
-use Rattle.cb_frames.specs.Fields.{Carried}
 use Rattle.cb_history.specs.EventLaws.{casts_among, carried_in}
 use Rattle.cb_history.proofs.Views.{IsIn, filter_in, in_filter}
 use Rattle.cb_history.proofs.Lists.{in_append, in_front, in_back, each_of, one_of, any_of}
-use Rattle.cb_schedules.specs.Succession.{Plan, Reading, EndableGroup, is_listed, own_plan, is_own_end, own_plans, is_end_by, is_end_in, upto_end, behind_end, cut_field, is_in_cut, Begin, has_begun, is_passed, may_begin, shown_at_begin}
+use Rattle.cb_schedules.specs.Succession.{Plan, Reading, EndableGroup, is_listed, is_own_end, own_plans, is_end_by, is_end_in, upto_end, behind_end, cut_field, is_in_cut, Begin, has_begun, is_passed, may_begin, shown_at_begin}
 use Rattle.cb_schedules.specs.SuccessionLaws.{HasEnded, IsInTheCut}
-use Rattle.cb_schedules.proofs.EndLists.{get_two, filter_all, filter_none, filter_same_on, filter_one, filter_map_of, cut_at_end, upto_stands, behind_stands, upto_stays, own_end_is, is_end, plan_is_own, same_text, text_same, end_by_is, end_in_is, is_end_of, cut_field_is, cut_field_counts, casts_of_both, cast_is_among}
+use Rattle.cb_schedules.proofs.EndLists.{get_two, filter_all, filter_none, filter_same_on, filter_one, filter_map_of, cut_at_end, upto_stands, behind_stands, upto_stays, is_end, plan_is_own, same_text, end_by_is, end_in_is, is_end_of, cut_field_is, cut_field_counts, cast_is_among}
 use Rattle.cb_schedules.proofs.Lists.{index_of, in_by_index}
 
 -- ---- what is so after every list of steps
@@ -285,9 +283,10 @@ module _ (g : EndableGroup) (lists : StampedLists) (begun : List Begin) (is : Is
     -- of the events at the begin the test tells which are in the cut
     in_cut_then : (a : ℕ) (f : Event) → slice_get so.then_events a ≡ Some f → IsInTheCut (erased lists) b.text b.plan (message_of f).name ↔ (is_in_cut b.text b.plan so.then_events f ≡ true)
     in_cut_then a f at =
-        let both = vector_then (message_of f).name (number_is_one b.member a f (stands_now a f at)) in
-        (λ in_cut. le-leb (message_of f).name.number (cut_field b.text b.plan so.then_events (message_of f).name.sender) (both.0 in_cut),
-        λ holds. both.1 (leb-true (message_of f).name.number (cut_field b.text b.plan so.then_events (message_of f).name.sender) holds))
+        let both = vector_then (message_of f).name (number_is_one b.member a f (stands_now a f at)) in (
+          λ in_cut. le-leb (message_of f).name.number (cut_field b.text b.plan so.then_events (message_of f).name.sender) (both.0 in_cut),
+          λ holds. both.1 (leb-true (message_of f).name.number (cut_field b.text b.plan so.then_events (message_of f).name.sender) holds),
+        )
 
     -- what the member was shown
     shown_list : List Event

@@ -1,9 +1,9 @@
 -- Successions outlive restarts: what their laws rest on holds of members with journals too.
-use Rattle.std.specs.Prelude.{slice_get, is_none, nat_lt, not}
-use Rattle.std.specs.List.{filter, list_all, list_any, flat_map}
-use Rattle.std.proofs.Common.{◌≡◌, ◌≢◌, ℕ, zero, suc, ◌+◌, ◌<◌, ◌≤◌, ◌⊎◌, ◌&&◌, Bool, true, false, cond, eqb, ltb, leb, inl, inr, Option, List, [], ◌∷◌, ◌++◌, length, take, drop, map, Some, None, refl, sym, ◌∙◌, ap, subst, arith, append-nil, append_assoc, take-take}
+use Rattle.std.specs.Prelude.{slice_get, is_none}
+use Rattle.std.specs.List.{filter, list_any, flat_map}
+use Rattle.std.proofs.Common.{◌≡◌, ◌≢◌, ℕ, zero, suc, ◌+◌, ◌<◌, ◌≤◌, ◌⊎◌, ◌&&◌, true, false, eqb, ltb, leb, inl, inr, Option, List, [], ◌∷◌, ◌++◌, length, take, Some, None, refl, sym, ◌∙◌, ap, subst, arith, append-nil, append_assoc, take-take}
 use Rattle.std.proofs.lemmas.Bool.{cases_Bool, cases_eq, cond_both, and_parts, eqb-true, eq-eqb, ltb-true, both_ways}
-use Rattle.std.proofs.lemmas.List.{append_cancel_left, take-append-le, take_all}
+use Rattle.std.proofs.lemmas.List.{append_cancel_left, take-append-le}
 use Rattle.std.proofs.lemmas.List.Elements.{filter-append}
 use mathlib.Core.Path.{fun_ext}
 use Rattle.cb_frames.specs.Fields.{Load, One, payloads_of, load_bytes, CastFields, Carried, messages_of, numbered}
@@ -12,21 +12,21 @@ use Rattle.cb_delay.specs.declared.message.Event.{Event}
 use Rattle.cb_delay.specs.declared.message.Event.TheVariants.{Cast}
 use Rattle.cb_causality.proofs.Counting.{take_whole, get_left, length_more}
 use Rattle.std.proofs.lemmas.Option.{slice_get_within}
-use Rattle.cb_history.specs.EventLaws.{casts_among, carried_in}
+use Rattle.cb_history.specs.EventLaws.{casts_among}
 use Rattle.cb_history.specs.Events.{events}
-use Rattle.cb_history.specs.Facts.{EntryFields, Fact, facts_of, messages_in}
+use Rattle.cb_history.specs.Facts.{EntryFields, facts_of, messages_in}
 use Rattle.cb_history.specs.Answers.{own_casts, is_too_many}
 use Rattle.cb_history.specs.Legal.{Call, ToCast, ToTake, ToTick, ToHelp, entry_of, and_entry, history_after}
 use Rattle.cb_history.specs.View.{view}
 use Rattle.cb_history.proofs.Lists.{any_of, each_of, flat_map-append, one_of}
-use Rattle.cb_schedules.specs.Schedule.{Setting, IsSetting, seat_at, Step, CastStep, ArriveStep, TickStep, HelpStep, Asked, Calls, OfNoMember, OfNoFrame, OfNoBytes, are_bytes, asked_by, GroupState, run}
-use Rattle.cb_schedules.specs.Messages.{facts_at, stamped_lists}
+use Rattle.cb_schedules.specs.Schedule.{Setting, IsSetting, seat_at, Step, CastStep, ArriveStep, TickStep, HelpStep, Asked, Calls, OfNoMember, OfNoFrame, OfNoBytes, are_bytes, asked_by, run}
+use Rattle.cb_schedules.specs.Messages.{stamped_lists}
 use Rattle.cb_schedules.specs.Consistent.{IsConsistent}
-use Rattle.cb_schedules.specs.Restarts.{WaitingFrame, JournaledState, nothing_journaled, with_own, JournaledStep, EnterStep, WriteStep, SendStep, HandOutStep, RestartStep, WriteFirst, after_entering, after_writing, and_sent, and_handed, after_restart, journaled_step, without_dropped, there_now, written_entries}
+use Rattle.cb_schedules.specs.Restarts.{WaitingFrame, JournaledState, nothing_journaled, JournaledStep, EnterStep, WriteStep, SendStep, HandOutStep, RestartStep, WriteFirst, after_entering, after_writing, and_sent, and_handed, after_restart, journaled_step, without_dropped, there_now, written_entries}
 use Rattle.cb_schedules.specs.RestartLaws.{written_events}
 use Rattle.cb_schedules.specs.RoundLaws.{IsNoCastStep}
 use Rattle.cb_schedules.specs.Succession.{Plan, EndableGroup, IsEndable, own_plan, is_own_end, upto_end, Begin, has_begun, may_talk, may_end, may_begin, shown_at_begin, SuccessionState}
-use Rattle.cb_schedules.specs.SuccessionRestarts.{JournaledSuccessionStep, Journals, EntersEnd, WritesBegin, JournaledSuccession, succession_now, may_journal, and_journals, and_enters_end, is_written, and_writes_begin, journaled_succession_step, journaled_succession_from, journaled_succession, EachJournaledSuccession, shown_written, WhatWasShownOutlivesRestarts}
+use Rattle.cb_schedules.specs.SuccessionRestarts.{JournaledSuccessionStep, Journals, EntersEnd, WritesBegin, JournaledSuccession, succession_now, and_journals, and_enters_end, is_written, and_writes_begin, journaled_succession_step, journaled_succession_from, journaled_succession, EachJournaledSuccession, shown_written, WhatWasShownOutlivesRestarts}
 use Rattle.cb_schedules.proofs.Courses.{runs_are_consistent}
 use Rattle.cb_schedules.proofs.EndLists.{get_two, is_end, casts_of_both, filter_none, none_passes, upto_stays, upto_all}
 use Rattle.cb_schedules.proofs.Journaled.{of_each, IsJournaled, starts, shows_more, front_stays, now_written, writes, step_holds}
@@ -91,9 +91,13 @@ module _ (g : EndableGroup) (endable : IsEndable g) (x : JournaledSuccession) (s
   began_ended n b at =
       let succeeds = now_succeeds g endable x so in
       let (a, m, stood, text) = own_end g (stamped_lists g.setting (there_now x.journaled)) x.begun succeeds n b at in
-      let written = so.begins n b at in
-      (a, m, stands_now g (stamped_lists g.setting (there_now x.journaled)) x.begun succeeds n b at a (Cast m) stood, ap g.plan_in text ∙ written.so.read,
-      ap (λ (es : List Event). slice_get es a) written.goes_on ∙ get_left written.so.then_events written.rest a (slice_get_within written.so.then_events a (Cast m) stood) ∙ stood)
+      let written = so.begins n b at in (
+        a,
+        m,
+        stands_now g (stamped_lists g.setting (there_now x.journaled)) x.begun succeeds n b at a (Cast m) stood,
+        ap g.plan_in text ∙ written.so.read,
+        ap (λ (es : List Event). slice_get es a) written.goes_on ∙ get_left written.so.then_events written.rest a (slice_get_within written.so.then_events a (Cast m) stood) ∙ stood,
+      )
 
   abbrev its_begins : ℕ → List Event
   its_begins i = flat_map (λ (b : Begin). b.shown) (filter (λ (b : Begin). eqb b.member i) x.begun)
@@ -121,20 +125,24 @@ module _ (g : EndableGroup) (endable : IsEndable g) (x : JournaledSuccession) (s
       elim (cases_Bool (list_any (is_own_end g.plan_in) (written_events g.setting x.journaled i))) [
         | inl some ↦
             let (e, there, holds) = one_of (is_own_end g.plan_in) (written_events g.setting x.journaled i) some in
-            let (a, at) = index_of (written_events g.setting x.journaled i) e there in
-            ([], ap (λ (es : List Event). es ++ its_begins i) (ap (upto_end g.plan_in) is ∙ upto_stays g.plan_in (written_events g.setting x.journaled i) more a e at holds)
-            ∙ sym (append-nil (shown_written g x i)))
+            let (a, at) = index_of (written_events g.setting x.journaled i) e there in (
+              [],
+              ap (λ (es : List Event). es ++ its_begins i) (ap (upto_end g.plan_in) is ∙ upto_stays g.plan_in (written_events g.setting x.journaled i) more a e at holds)
+                  ∙ sym (append-nil (shown_written g x i)),
+            )
         | inr none ↦
             let no_end : (a : ℕ) (e : Event) → slice_get (written_events g.setting x.journaled i) a ≡ Some e → is_own_end g.plan_in e ≡ false =
             λ a e at. none_passes (is_own_end g.plan_in) (written_events g.setting x.journaled i) none a e at in
             let nothing = no_end_no_begin i no_end in
             let before : shown_written g x i ≡ written_events g.setting x.journaled i =
             ap (λ (es : List Event). upto_end g.plan_in (written_events g.setting x.journaled i) ++ es) nothing ∙ append-nil (upto_end g.plan_in (written_events g.setting x.journaled i))
-            ∙ ap (upto_end g.plan_in) (sym (append-nil (written_events g.setting x.journaled i))) ∙ upto_all g.plan_in (written_events g.setting x.journaled i) [] no_end ∙ append-nil (written_events g.setting x.journaled i) in
-            (upto_end g.plan_in more, ap (λ (es : List Event). upto_end g.plan_in (written_events g.setting after i) ++ es) nothing
-            ∙ append-nil (upto_end g.plan_in (written_events g.setting after i))
-            ∙ ap (upto_end g.plan_in) is ∙ upto_all g.plan_in (written_events g.setting x.journaled i) more no_end
-            ∙ ap (λ (es : List Event). es ++ upto_end g.plan_in more) (sym before))
+            ∙ ap (upto_end g.plan_in) (sym (append-nil (written_events g.setting x.journaled i))) ∙ upto_all g.plan_in (written_events g.setting x.journaled i) [] no_end ∙ append-nil (written_events g.setting x.journaled i) in (
+              upto_end g.plan_in more,
+              ap (λ (es : List Event). upto_end g.plan_in (written_events g.setting after i) ++ es) nothing
+                  ∙ append-nil (upto_end g.plan_in (written_events g.setting after i))
+                  ∙ ap (upto_end g.plan_in) is ∙ upto_all g.plan_in (written_events g.setting x.journaled i) more no_end
+                  ∙ ap (λ (es : List Event). es ++ upto_end g.plan_in more) (sym before),
+            )
       ]
 
   and_goes_on : (step : JournaledStep) → ((k : ℕ) → GoesOnWritten (journaled_step WriteFirst g.setting x.journaled step) k) → GoesOn (and_journals g x step)
@@ -229,9 +237,11 @@ module _ (g : EndableGroup) (endable : IsEndable g) (x : JournaledSuccession) (s
     own_more =
         let shows = shows_more g.setting endable.is_setting after h_after i (length (x.journaled.histories i)) (length (after.histories i)) (subst (λ (entries : List EntryFields). length (x.journaled.histories i) ≤ length entries) (sym own_history) grows) in
         let whole : take (length (after.histories i)) (after.histories i) ≡ after.histories i = take_whole (after.histories i) in
-        let old : take (length (x.journaled.histories i)) (after.histories i) ≡ x.journaled.histories i = ap (take (length (x.journaled.histories i))) own_history ∙ front in
-        (shows.0, ap (λ (entries : List EntryFields). events (seat_at g.setting i) (facts_of entries)) (sym whole) ∙ shows.1
-        ∙ ap (λ (entries : List EntryFields). events (seat_at g.setting i) (facts_of entries) ++ shows.0) old)
+        let old : take (length (x.journaled.histories i)) (after.histories i) ≡ x.journaled.histories i = ap (take (length (x.journaled.histories i))) own_history ∙ front in (
+          shows.0,
+          ap (λ (entries : List EntryFields). events (seat_at g.setting i) (facts_of entries)) (sym whole) ∙ shows.1
+              ∙ ap (λ (entries : List EntryFields). events (seat_at g.setting i) (facts_of entries) ++ shows.0) old,
+        )
 
     -- what it has written is the same
     own_written : written_events g.setting after i ≡ written_events g.setting x.journaled i
@@ -485,9 +495,9 @@ module _ (g : EndableGroup) (endable : IsEndable g) (x : JournaledSuccession) (s
     shows = λ k. (
       flat_map (λ (c : Begin). c.shown) (filter (λ (c : Begin). eqb c.member k) (new ∷ [])),
       ap (λ (bs : List Begin). upto_end g.plan_in (written_events g.setting x.journaled k) ++ flat_map (λ (c : Begin). c.shown) bs) (filter-append (λ (c : Begin). eqb c.member k) x.begun (new ∷ []))
-      ∙ ap (λ (es : List Event). upto_end g.plan_in (written_events g.setting x.journaled k) ++ es)
-      (flat_map-append (λ (c : Begin). c.shown) (filter (λ (c : Begin). eqb c.member k) x.begun) (filter (λ (c : Begin). eqb c.member k) (new ∷ [])))
-      ∙ sym (append_assoc (upto_end g.plan_in (written_events g.setting x.journaled k)) (its_begins k) (flat_map (λ (c : Begin). c.shown) (filter (λ (c : Begin). eqb c.member k) (new ∷ [])))),
+          ∙ ap (λ (es : List Event). upto_end g.plan_in (written_events g.setting x.journaled k) ++ es)
+          (flat_map-append (λ (c : Begin). c.shown) (filter (λ (c : Begin). eqb c.member k) x.begun) (filter (λ (c : Begin). eqb c.member k) (new ∷ [])))
+          ∙ sym (append_assoc (upto_end g.plan_in (written_events g.setting x.journaled k)) (its_begins k) (flat_map (λ (c : Begin). c.shown) (filter (λ (c : Begin). eqb c.member k) (new ∷ [])))),
     );
   }
     where
@@ -590,6 +600,8 @@ one_step g x step = refl
 
 pub what_was_shown_outlives_restarts : WhatWasShownOutlivesRestarts
 what_was_shown_outlives_restarts g steps step i endable =
-    let (more, is) = (journaled_step_is_so g endable (journaled_succession g steps) (journaled_successions_are_so g endable steps) step).shows i in
-    (more, ap (λ (x : JournaledSuccession). shown_written g x i)
-    (journaled_joins g (record { journaled = nothing_journaled; begun = [] }) steps (step ∷ []) ∙ one_step g (journaled_succession g steps) step) ∙ is)
+    let (more, is) = (journaled_step_is_so g endable (journaled_succession g steps) (journaled_successions_are_so g endable steps) step).shows i in (
+      more,
+      ap (λ (x : JournaledSuccession). shown_written g x i)
+          (journaled_joins g (record { journaled = nothing_journaled; begun = [] }) steps (step ∷ []) ∙ one_step g (journaled_succession g steps) step) ∙ is,
+    )

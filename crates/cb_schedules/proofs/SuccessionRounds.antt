@@ -1,35 +1,34 @@
 -- Rounds without a silent member bring the ENDs to all who go on.
-use Rattle.std.specs.Prelude.{slice_get, is_none, bytes_eq, nat_le, nat_lt, not}
+use Rattle.std.specs.Prelude.{slice_get, bytes_eq, nat_le, nat_lt, not}
 use Rattle.std.specs.List.{AllByRecursion, list_any, list_all, filter_map}
-use Rattle.std.proofs.Common.{◌≡◌, ◌≢◌, ℕ, ◌+◌, ◌<◌, ◌≤◌, ◌&&◌, ◌||◌, Bool, true, false, cond, eqb, inl, inr, Option, List, [], ◌∷◌, ◌++◌, length, map, Some, None, refl, sym, ◌∙◌, ap, subst, arith, append-nil, append_assoc}
-use Rattle.std.proofs.lemmas.Bool.{cond_both, and_parts, eq-eqb, leb-true, ltb-true, le-ltb, or_cases}
+use Rattle.std.proofs.Common.{◌≡◌, ◌≢◌, ℕ, ◌<◌, ◌≤◌, ◌&&◌, ◌||◌, Bool, true, false, eqb, Option, List, [], ◌∷◌, ◌++◌, map, Some, None, refl, sym, ◌∙◌, ap, subst, append-nil, append_assoc}
+use Rattle.std.proofs.lemmas.Bool.{cond_both, eq-eqb, leb-true, le-ltb}
 use Rattle.std.proofs.lemmas.Option.{slice_get_within}
 use Rattle.cb_times.specs.declared.name.Name.{Name}
 use Rattle.cb_frames.specs.Fields.{One, Carried}
 use Rattle.cb_delay.specs.declared.message.Message.{Message}
 use Rattle.cb_delay.specs.declared.message.Event.{Event}
-use Rattle.cb_delay.specs.declared.message.Event.TheVariants.{Cast, Deliver}
+use Rattle.cb_delay.specs.declared.message.Event.TheVariants.{Cast}
 use Rattle.cb_delay.specs.Message.{message_of}
 use Rattle.cb_causality.specs.declared.event.CausalEvent.TheVariants as causal
-use Rattle.cb_causality.specs.Events.{name_of, Has}
-use Rattle.cb_causality.specs.StampedMachine.{erased, without_time}
+use Rattle.cb_causality.specs.Events.{name_of}
+use Rattle.cb_causality.specs.StampedMachine.{without_time}
 use Rattle.cb_causality.proofs.Counting.{get_left, get_map, get_map_from}
 use Rattle.cb_causality.proofs.OneMessage.{one_name_one_message}
 use Rattle.cb_causality.proofs.Runs.{run_regular}
 use Rattle.cb_causality.proofs.Stamps.{stamped_is_causal, name_stays}
-use Rattle.cb_history.specs.EventLaws.{casts_among, carried_in}
+use Rattle.cb_history.specs.EventLaws.{casts_among}
 use Rattle.cb_history.specs.Answers.{own_casts}
 use Rattle.cb_history.proofs.Views.{IsIn}
-use Rattle.cb_history.proofs.Lists.{each_of, all_of, any_of, one_of}
-use Rattle.cb_schedules.specs.Schedule.{Setting, IsSetting, Step, CastStep, ArriveStep, TickStep, HelpStep, Schedule, GroupState, nothing_yet, step_after, run_from, run}
+use Rattle.cb_history.proofs.Lists.{each_of, all_of, any_of}
+use Rattle.cb_schedules.specs.Schedule.{Setting, IsSetting, Step, CastStep, ArriveStep, TickStep, HelpStep, Schedule, GroupState, step_after, run_from, run}
 use Rattle.cb_schedules.specs.Messages.{facts_at, stamped_lists, causal_lists, HasDelivered}
 use Rattle.cb_schedules.specs.Rounds.{FindNoneFull}
 use Rattle.cb_schedules.specs.RoundLaws.{IsNoCastStep}
-use Rattle.cb_schedules.specs.HelpRounds.{help_rounds, after_help_rounds}
+use Rattle.cb_schedules.specs.HelpRounds.{help_rounds}
 use Rattle.cb_schedules.specs.HelpRoundLaws.{rounds_without}
 use Rattle.cb_schedules.specs.Consistent.{IsConsistent}
-use Rattle.cb_schedules.specs.Succession.{Plan, Reading, EndableGroup, IsEndable, is_listed, own_plan, own_plans, is_end_by, Begin, has_begun, is_passed, may_talk, may_end, may_begin, shown_at_begin, the_rules, SuccessionStep, Happens, Ends, Begins, SuccessionState, and_happens, and_ends, and_begins, succession_step, succession_from, nobody_yet, succession}
-use Rattle.cb_schedules.specs.SuccessionLaws.{HasEnded}
+use Rattle.cb_schedules.specs.Succession.{Plan, EndableGroup, IsEndable, is_listed, own_plans, is_end_by, Begin, has_begun, is_passed, may_talk, may_end, may_begin, the_rules, SuccessionStep, Happens, Ends, Begins, SuccessionState, and_happens, and_ends, and_begins, succession_step, succession_from, nobody_yet, succession}
 use Rattle.cb_schedules.specs.SuccessionRounds.{rounds_of, behind_rounds, MayBeginNow, GoesOnBy, ADeadMemberIsNotNeeded, ComesLate, WhoComesLateMayBegin, NothingElseIsWaitedFor}
 use Rattle.cb_schedules.proofs.Courses.{step_goes_on, consistent_from}
 use Rattle.cb_schedules.proofs.EndLists.{casts_of_both, plans_of_casts, both_hold, text_same}
@@ -38,8 +37,8 @@ use Rattle.cb_schedules.proofs.Headlines.{member_has, headline_holds}
 use Rattle.cb_schedules.proofs.HelpRoundLaws.{others_have_what_any_had}
 use Rattle.cb_schedules.proofs.HelpSteps.{help_rounds_cast_nothing}
 use Rattle.cb_schedules.proofs.Later.{MoreFacts, own_casts-append, step_is_later}
-use Rattle.cb_schedules.proofs.Lists.{index_of, in_by_index}
-use Rattle.cb_schedules.proofs.SuccessionLaws.{IsSucceeding, may_begin_asks, MayBegin, had_end, stands_now, asks, cast_from_erased}
+use Rattle.cb_schedules.proofs.Lists.{in_by_index}
+use Rattle.cb_schedules.proofs.SuccessionLaws.{had_end, stands_now, asks, cast_from_erased}
 use Rattle.cb_schedules.proofs.SuccessionSteps.{SuccessionSo, more_casts, successions_are_so}
 use Rattle.cb_schedules.proofs.Successions.{succession_joins}
 
@@ -113,9 +112,11 @@ quiet_events setting is s inv (step ∷ steps) none k =
     let own : own_casts (facts_at (step_after setting s step) k) ≡ own_casts (facts_at s k) ++ [] =
     ap own_casts later.is ∙ own_casts-append (facts_at s k) later.more ∙ ap (λ (cs : List _). own_casts (facts_at s k) ++ cs) later.none_own in
     let (first, is_first, no_first) = more_casts setting s (step_after setting s step) inv goes.0 goes.1 k [] own in
-    let (rest, is_rest, no_rest) = quiet_events setting is (step_after setting s step) goes.0 steps none.1 k in
-    (first ++ rest, is_rest ∙ ap (λ (es : List Event). es ++ rest) is_first ∙ append_assoc (stamped_lists setting s k) first rest,
-    casts_of_both first rest ∙ ap (λ (cs : List Carried). cs ++ casts_among rest) no_first ∙ no_rest)
+    let (rest, is_rest, no_rest) = quiet_events setting is (step_after setting s step) goes.0 steps none.1 k in (
+      first ++ rest,
+      is_rest ∙ ap (λ (es : List Event). es ++ rest) is_first ∙ append_assoc (stamped_lists setting s k) first rest,
+      casts_of_both first rest ∙ ap (λ (cs : List Carried). cs ++ casts_among rest) no_first ∙ no_rest,
+    )
 
 -- ---- an END that is delivered
 
@@ -231,6 +232,7 @@ module _ (g : EndableGroup) (endable : IsEndable g) (steps : List SuccessionStep
       waits listed (all_of (λ l. list_any (is_end_by text l) (stamped_lists g.setting behind k)) plan.list ended)
       (ap (list_all (λ q. not (nat_lt plan.number q.number) || is_passed before.begun text plan q)) (same_plans k)
       ∙ all_of (λ q. not (nat_lt plan.number q.number) || is_passed before.begun text plan q) (own_plans g.plan_in (stamped_lists g.setting before.group k)) passed))
+
   -- each whom the plan lists has ended
   module _ (text : List ℕ) (plan : Plan) (read : g.plan_in text ≡ Some plan) (each : (l : ℕ) → is_listed l plan ≡ true → GoesOnBy g (succession the_rules g steps) silent text plan l) where
     is_in_list : (l : ℕ) → IsIn l plan.list → is_listed l plan ≡ true

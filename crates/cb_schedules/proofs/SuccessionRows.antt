@@ -1,22 +1,20 @@
 -- Worked successions of three members: how they go on, and what goes wrong where they decide in other ways.
 use Rattle.std.specs.Prelude.{slice_get}
-use Rattle.std.proofs.Common.{◌≡◌, ℕ, zero, suc, ◌⊎◌, inl, inr, Option, List, [], ◌∷◌, length, map, Some, None, refl, sym, ap, ◌∙◌, arith}
+use Rattle.std.proofs.Common.{◌≡◌, ℕ, zero, suc, ◌⊎◌, inl, inr, Option, List, [], ◌∷◌, length, map, Some, None, refl, ap, ◌∙◌, arith}
 use Rattle.cb_varint.specs.Reading.{number_at, spelling}
 use Rattle.cb_times.specs.declared.name.Name.{Name}
 use Rattle.cb_frames.specs.Fields.{One, messages_of, first_number, last_number}
 use Rattle.cb_frames.specs.Text.{text_of}
 use Rattle.cb_frames.specs.Reading.{frame_at, head_at, cast_at, status_at, request_at, pairs_at, pair_at}
-use Rattle.cb_delay.specs.declared.message.Event.{Event}
 use Rattle.cb_delay.specs.Message.{message_of}
 use Rattle.cb_causality.specs.declared.event.CausalEvent.{CausalEvent}
 use Rattle.cb_causality.specs.Events.{name_of, Has}
-use Rattle.cb_causality.specs.StampedMachine.{without_times}
 use Rattle.cb_history.specs.View.{view, drained}
-use Rattle.cb_history.specs.Answers.{cast_answer, arrive_answer, tick_answer, is_window_full}
-use Rattle.cb_schedules.specs.Schedule.{Setting, IsSetting, seat_at, CastStep, ArriveStep, TickStep, step_after, run_from}
-use Rattle.cb_schedules.specs.Messages.{facts_at, stamped_lists}
-use Rattle.cb_schedules.specs.Succession.{Plan, EndableGroup, IsEndable, own_plans, Begin, Rules, the_rules, SuccessionStep, Happens, Ends, Begins, SuccessionState, succession_step, succession_from, succession, shown}
-use Rattle.cb_schedules.specs.SuccessionLaws.{HasBegun, HasBeenShown, NobodyBeginsByALaterPlan, OneNumberHasOneText, TheSameIsShown}
+use Rattle.cb_history.specs.Answers.{cast_answer, arrive_answer, tick_answer}
+use Rattle.cb_schedules.specs.Schedule.{CastStep, ArriveStep, step_after, run_from}
+use Rattle.cb_schedules.specs.Messages.{stamped_lists}
+use Rattle.cb_schedules.specs.Succession.{Plan, EndableGroup, IsEndable, own_plans, the_rules, SuccessionStep, Happens, Ends, Begins, SuccessionState, succession_step, succession_from, succession, shown}
+use Rattle.cb_schedules.specs.SuccessionLaws.{NobodyBeginsByALaterPlan, OneNumberHasOneText, TheSameIsShown}
 use Rattle.cb_schedules.specs.SuccessionTraps.{Breaks, NoReserveLeavesNoRoom, takes_older, ends_once, no_compare, shows_all, cut_is_now}
 
 -- a plan's text in these rows: 0, its number, a note of one number, and the list

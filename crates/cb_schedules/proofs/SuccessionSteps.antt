@@ -1,17 +1,16 @@
--- What the laws of successions rest on holds after every list of steps.
-use Rattle.std.specs.Prelude.{slice_get, is_some, is_none, nat_le, nat_lt, not}
-use Rattle.std.specs.List.{filter, list_any, list_all, flat_map}
-use Rattle.std.proofs.Common.{◌≡◌, ◌≢◌, ℕ, zero, suc, ◌+◌, ◌<◌, ◌≤◌, ◌⊎◌, ◌&&◌, Bool, true, false, cond, eqb, ltb, inl, inr, Option, List, [], ◌∷◌, ◌++◌, length, take, map, Some, None, Result, Ok, Err, refl, sym, ◌∙◌, ap, subst, arith, append-nil, append_assoc}
-use Rattle.std.proofs.lemmas.Bool.{cases_Bool, cases_eq, cases_lt, cond_both, and_parts, eqb-true, eqb-false, eq-eqb, ne_eqb, ltb-true, ltb-false, both_ways}
+-- The invariant that the laws of successions rest on holds after every list of steps.
+use Rattle.std.specs.Prelude.{slice_get, is_none, nat_le, nat_lt, not}
+use Rattle.std.specs.List.{list_all}
+use Rattle.std.proofs.Common.{◌≡◌, ℕ, zero, suc, ◌+◌, ◌<◌, ◌⊎◌, ◌&&◌, Bool, true, false, eqb, ltb, inl, inr, Option, List, [], ◌∷◌, ◌++◌, length, take, Some, None, Result, Ok, Err, refl, sym, ◌∙◌, ap, subst, arith, append-nil, append_assoc}
+use Rattle.std.proofs.lemmas.Bool.{cases_lt, cond_both, and_parts, eqb-true, eq-eqb, ltb-true, ltb-false, both_ways}
 use Rattle.std.proofs.lemmas.List.{append_cancel_left, take-append-le}
-use Rattle.std.proofs.lemmas.Option.{slice_get_within}
 use Rattle.cb_frames.specs.declared.frame.TheConstants.{LONGEST_PAYLOAD, MOST_MESSAGES}
 use Rattle.cb_frames.specs.Fields.{Load, One, payloads_of, load_bytes, CastFields, CastFrame, Carried, messages_of, numbered}
 use Rattle.cb_frames.specs.Text.{text_of}
 use Rattle.cb_frames.specs.Laws.{IsBytes}
 use Rattle.cb_delay.specs.declared.message.Message.{Message}
 use Rattle.cb_delay.specs.declared.message.Event.{Event}
-use Rattle.cb_delay.specs.declared.message.Event.TheVariants.{Cast, Deliver}
+use Rattle.cb_delay.specs.declared.message.Event.TheVariants.{Cast}
 use Rattle.cb_delay.specs.Message.{message_of}
 use Rattle.cb_causality.specs.StampedMachine.{StampedStep}
 use Rattle.cb_causality.specs.Extension.{Extends}
@@ -22,27 +21,26 @@ use Rattle.cb_history.specs.CastFault.{CastFault, EmptyBurst, BurstTooLong, Payl
 use Rattle.cb_history.specs.EventLaws.{casts_among, carried_in}
 use Rattle.cb_history.specs.Events.{events}
 use Rattle.cb_history.specs.Facts.{EntryFields, CastEntry, Fact, OwnCast, cast_said, facts_of, messages_in}
-use Rattle.cb_history.specs.LegalFacts.{AreFactsOf}
 use Rattle.cb_history.specs.Legal.{ToCast, cast_entry, and_entry, history_after}
 use Rattle.cb_history.specs.Known.{stable}
 use Rattle.cb_history.specs.Answers.{delivered, own_casts, next_cast, is_too_many, is_full, cast_answer}
 use Rattle.cb_history.specs.Group.{Identity}
 use Rattle.cb_history.specs.View.{view}
 use Rattle.cb_history.proofs.Views.{IsIn}
-use Rattle.cb_history.proofs.Lists.{each_of, one_of, any_of, flat_map-append}
+use Rattle.cb_history.proofs.Lists.{each_of, any_of, flat_map-append}
 use Rattle.cb_history.proofs.Happening.{events_cast_the_own}
 use Rattle.cb_history.proofs.Walks.{own_casts-own}
-use Rattle.cb_schedules.specs.Schedule.{Setting, IsSetting, seat_at, Step, CastStep, ArriveStep, TickStep, HelpStep, Asked, Calls, OfNoMember, OfNoBytes, GroupState, nothing_yet, are_bytes, asked_by, after_asked, with_history, step_after}
+use Rattle.cb_schedules.specs.Schedule.{Setting, IsSetting, seat_at, Step, CastStep, ArriveStep, TickStep, HelpStep, Asked, Calls, OfNoBytes, GroupState, are_bytes, after_asked, with_history, step_after}
 use Rattle.cb_schedules.specs.Messages.{facts_at, stamped_lists}
 use Rattle.cb_schedules.specs.RoundLaws.{IsNoCastStep}
 use Rattle.cb_schedules.specs.Consistent.{IsConsistent}
-use Rattle.cb_schedules.specs.Succession.{Plan, Reading, EndableGroup, IsEndable, is_listed, own_plan, is_own_end, own_plans, goes_further, leaves_out, Begin, has_begun, may_talk, may_end, may_begin, shown_at_begin, Rules, the_rules, SuccessionStep, Happens, Ends, Begins, SuccessionState, may_happen, and_happens, and_ends, and_begins, succession_step, succession_from, nobody_yet, succession}
+use Rattle.cb_schedules.specs.Succession.{Plan, Reading, EndableGroup, IsEndable, is_listed, own_plan, own_plans, goes_further, leaves_out, Begin, has_begun, may_talk, may_end, may_begin, shown_at_begin, the_rules, SuccessionStep, Happens, Ends, Begins, SuccessionState, and_happens, and_ends, and_begins, succession_step, succession_from, nobody_yet, succession}
 use Rattle.cb_schedules.proofs.Answering.{some_are}
 use Rattle.cb_schedules.proofs.Calling.{facts_push}
 use Rattle.cb_schedules.proofs.Courses.{starts, step_goes_on}
-use Rattle.cb_schedules.proofs.EndLists.{get_two, own_end_is, is_end, plan_is_own, casts_of_both, cast_is_among, one_cast_stands}
-use Rattle.cb_schedules.proofs.Later.{MoreFacts, IsLater, own_casts-append, step_is_later}
-use Rattle.cb_schedules.proofs.Lists.{index_of, in_by_index}
+use Rattle.cb_schedules.proofs.EndLists.{get_two, plan_is_own, casts_of_both, cast_is_among, one_cast_stands}
+use Rattle.cb_schedules.proofs.Later.{MoreFacts, own_casts-append, step_is_later}
+use Rattle.cb_schedules.proofs.Lists.{in_by_index}
 use Rattle.cb_schedules.proofs.Sending.{next_cast_reads}
 use Rattle.cb_schedules.proofs.SuccessionLaws.{EndsInTurn, BeganSo, IsSucceeding, own_end, stands_now}
 

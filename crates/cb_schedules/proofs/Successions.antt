@@ -1,30 +1,26 @@
 -- The laws of successions, from what holds after every list of steps.
 use Rattle.std.specs.Prelude.{slice_get, bytes_eq, nat_le}
 use Rattle.std.specs.List.{filter, list_any, flat_map}
-use Rattle.std.proofs.Common.{◌≡◌, ℕ, zero, suc, ◌+◌, ◌<◌, ◌≤◌, ◌⊎◌, ◌&&◌, Bool, true, false, cond, eqb, inl, inr, Option, List, [], ◌∷◌, ◌++◌, length, take, Some, None, refl, sym, ◌∙◌, ap, subst, arith, append-nil, append_assoc}
-use Rattle.std.proofs.lemmas.Bool.{cases_Bool, cases_eq, cond_both, and_parts, eqb-true, eq-eqb, ne_eqb}
+use Rattle.std.proofs.Common.{◌≡◌, ℕ, ◌⊎◌, ◌&&◌, true, false, eqb, inl, inr, Option, List, [], ◌∷◌, ◌++◌, Some, None, refl, sym, ◌∙◌, ap, subst, append-nil, append_assoc}
+use Rattle.std.proofs.lemmas.Bool.{cases_Bool, cond_both, and_parts, eqb-true}
 use Rattle.std.proofs.lemmas.List.Elements.{filter-append}
-use Rattle.cb_times.specs.declared.name.Name.{Name}
 use Rattle.cb_frames.specs.Fields.{One}
-use Rattle.cb_delay.specs.declared.message.Message.{Message}
 use Rattle.cb_delay.specs.declared.message.Event.{Event}
 use Rattle.cb_delay.specs.declared.message.Event.TheVariants.{Cast}
 use Rattle.cb_causality.specs.Events.{Has}
-use Rattle.cb_causality.specs.HappenedBefore.{Lists}
 use Rattle.cb_causality.specs.Parts.{part}
 use Rattle.cb_causality.specs.StampedMachine.{without_times}
 use Rattle.cb_causality.proofs.Extending.{stamped_extends_runs}
-use Rattle.cb_history.proofs.Views.{IsIn}
 use Rattle.cb_history.proofs.Lists.{flat_map-append, one_of}
 use Rattle.cb_schedules.specs.Schedule.{Step, CastStep, ArriveStep, TickStep, HelpStep, step_after}
 use Rattle.cb_schedules.specs.Messages.{stamped_lists, causal_lists}
-use Rattle.cb_schedules.specs.Succession.{Plan, Reading, EndableGroup, IsEndable, is_own_end, upto_end, cut_field, Begin, may_talk, may_end, may_begin, shown_at_begin, the_rules, SuccessionStep, Happens, Ends, Begins, SuccessionState, and_happens, and_ends, and_begins, succession_step, succession_from, nobody_yet, succession, shown}
-use Rattle.cb_schedules.specs.SuccessionLaws.{EachSuccession, HasBegun, HasBeenShown, HasEnded, IsInTheCut, ExactlyTheCutIsShown, TheSameIsShown, EndsBy, WhatWasShownIsInTheCut, CastsAreInTheCut, TheCutIsOneVector, cut_told, lists_at_the_cut, TheCutIsCausal, ShownListsGoOn, NobodyBeginsByALaterPlan, OneNumberHasOneText, AreInEveryList, TheLastListGoesOneWay, TheCutIsDelivered, WhoIsListedHasEnded}
+use Rattle.cb_schedules.specs.Succession.{Plan, EndableGroup, IsEndable, is_own_end, upto_end, cut_field, Begin, may_talk, may_end, may_begin, shown_at_begin, the_rules, SuccessionStep, Happens, Ends, Begins, SuccessionState, and_happens, and_ends, and_begins, succession_step, succession_from, nobody_yet, succession, shown}
+use Rattle.cb_schedules.specs.SuccessionLaws.{EachSuccession, IsInTheCut, ExactlyTheCutIsShown, TheSameIsShown, WhatWasShownIsInTheCut, CastsAreInTheCut, TheCutIsOneVector, lists_at_the_cut, TheCutIsCausal, ShownListsGoOn, NobodyBeginsByALaterPlan, OneNumberHasOneText, TheLastListGoesOneWay, TheCutIsDelivered, WhoIsListedHasEnded}
 use Rattle.cb_schedules.proofs.Courses.{step_goes_on}
 use Rattle.cb_schedules.proofs.EndLists.{upto_stays, upto_all, is_end, filter_none, none_passes, same_text}
-use Rattle.cb_schedules.proofs.Lists.{index_of, in_by_index}
+use Rattle.cb_schedules.proofs.Lists.{index_of}
 use Rattle.cb_schedules.proofs.SuccessionLaws.{IsSucceeding, shown_is_the_cut, shown_before_is_in_cut, casts_are_in_cut, vector_now, cut_is_a_run, shown_at_its_begin, nobody_by_a_later_plan, one_number_one_text, one_way, cut_is_had, listed_has_ended}
-use Rattle.cb_schedules.proofs.SuccessionSteps.{SuccessionSo, step_is_so, successions_are_so, began_has_ended}
+use Rattle.cb_schedules.proofs.SuccessionSteps.{SuccessionSo, successions_are_so, began_has_ended}
 
 -- what follows from it is so after every list of steps
 pub each_succession : (P : EndableGroup → SuccessionState → Type 0)
@@ -80,8 +76,14 @@ module _ (g : EndableGroup) (t : SuccessionState) (so : IsSucceeding g (stamped_
                 let its : flat_map (λ (d : Begin). d.shown) (filter (λ (d : Begin). eqb d.member k) t.begun) ≡ c.shown =
                 subst (λ (j : ℕ). flat_map (λ (d : Begin). d.shown) (filter (λ (d : Begin). eqb d.member j) t.begun) ≡ c.shown) member
                 (shown_at_its_begin g (stamped_lists g.setting t.group) t.begun so m c at_c) in
-                inr (m, c, at_c, member, same_text b.text c.text both.1,
-                rw holds (ap (λ (es : List Event). without_times (upto_end g.plan_in (stamped_lists g.setting t.group k) ++ es)) its))
+                inr (
+                  m,
+                  c,
+                  at_c,
+                  member,
+                  same_text b.text c.text both.1,
+                  rw holds (ap (λ (es : List Event). without_times (upto_end g.plan_in (stamped_lists g.setting t.group k) ++ es)) its),
+                )
             | inr fails ↦ inl (rw fails refl)
           ]
 
@@ -137,29 +139,33 @@ module _ (g : EndableGroup) (endable : IsEndable g) (t : SuccessionState) (so : 
       elim (cases_Bool (list_any (is_own_end g.plan_in) (stamped_lists g.setting t.group i))) [
         | inl some ↦
             let (e, there, holds) = one_of (is_own_end g.plan_in) (stamped_lists g.setting t.group i) some in
-            let (a, at) = index_of (stamped_lists g.setting t.group i) e there in
-            ([], ap (λ (es : List Event). es ++ its_begins) (ap (upto_end g.plan_in) is ∙ upto_stays g.plan_in (stamped_lists g.setting t.group i) more a e at holds)
-            ∙ sym (append-nil (shown g t i)))
+            let (a, at) = index_of (stamped_lists g.setting t.group i) e there in (
+              [],
+              ap (λ (es : List Event). es ++ its_begins) (ap (upto_end g.plan_in) is ∙ upto_stays g.plan_in (stamped_lists g.setting t.group i) more a e at holds)
+                  ∙ sym (append-nil (shown g t i)),
+            )
         | inr none ↦
             let no_end : (a : ℕ) (e : Event) → slice_get (stamped_lists g.setting t.group i) a ≡ Some e → is_own_end g.plan_in e ≡ false =
             λ a e at. none_passes (is_own_end g.plan_in) (stamped_lists g.setting t.group i) none a e at in
             let nothing = no_end_no_begin no_end in
             let before : shown g t i ≡ stamped_lists g.setting t.group i =
             ap (λ (es : List Event). upto_end g.plan_in (stamped_lists g.setting t.group i) ++ es) nothing ∙ append-nil (upto_end g.plan_in (stamped_lists g.setting t.group i))
-            ∙ ap (upto_end g.plan_in) (sym (append-nil (stamped_lists g.setting t.group i))) ∙ upto_all g.plan_in (stamped_lists g.setting t.group i) [] no_end ∙ append-nil (stamped_lists g.setting t.group i) in
-            (upto_end g.plan_in more, ap (λ (es : List Event). upto_end g.plan_in (stamped_lists g.setting (step_after g.setting t.group step) i) ++ es) nothing
-            ∙ append-nil (upto_end g.plan_in (stamped_lists g.setting (step_after g.setting t.group step) i))
-            ∙ ap (upto_end g.plan_in) is ∙ upto_all g.plan_in (stamped_lists g.setting t.group i) more no_end
-            ∙ ap (λ (es : List Event). es ++ upto_end g.plan_in more) (sym before))
+            ∙ ap (upto_end g.plan_in) (sym (append-nil (stamped_lists g.setting t.group i))) ∙ upto_all g.plan_in (stamped_lists g.setting t.group i) [] no_end ∙ append-nil (stamped_lists g.setting t.group i) in (
+              upto_end g.plan_in more,
+              ap (λ (es : List Event). upto_end g.plan_in (stamped_lists g.setting (step_after g.setting t.group step) i) ++ es) nothing
+                  ∙ append-nil (upto_end g.plan_in (stamped_lists g.setting (step_after g.setting t.group step) i))
+                  ∙ ap (upto_end g.plan_in) is ∙ upto_all g.plan_in (stamped_lists g.setting t.group i) more no_end
+                  ∙ ap (λ (es : List Event). es ++ upto_end g.plan_in more) (sym before),
+            )
       ]
 
   begin_goes_on : (b : Begin) → (more : List Event) × (shown g (record { group = t.group; begun = t.begun ++ b ∷ [] }) i ≡ shown g t i ++ more)
   begin_goes_on b = (
     flat_map (λ (c : Begin). c.shown) (filter (λ (c : Begin). eqb c.member i) (b ∷ [])),
     ap (λ (bs : List Begin). upto_end g.plan_in (stamped_lists g.setting t.group i) ++ flat_map (λ (c : Begin). c.shown) bs) (filter-append (λ (c : Begin). eqb c.member i) t.begun (b ∷ []))
-    ∙ ap (λ (es : List Event). upto_end g.plan_in (stamped_lists g.setting t.group i) ++ es)
-    (flat_map-append (λ (c : Begin). c.shown) (filter (λ (c : Begin). eqb c.member i) t.begun) (filter (λ (c : Begin). eqb c.member i) (b ∷ [])))
-    ∙ sym (append_assoc (upto_end g.plan_in (stamped_lists g.setting t.group i)) its_begins (flat_map (λ (c : Begin). c.shown) (filter (λ (c : Begin). eqb c.member i) (b ∷ [])))),
+        ∙ ap (λ (es : List Event). upto_end g.plan_in (stamped_lists g.setting t.group i) ++ es)
+        (flat_map-append (λ (c : Begin). c.shown) (filter (λ (c : Begin). eqb c.member i) t.begun) (filter (λ (c : Begin). eqb c.member i) (b ∷ [])))
+        ∙ sym (append_assoc (upto_end g.plan_in (stamped_lists g.setting t.group i)) its_begins (flat_map (λ (c : Begin). c.shown) (filter (λ (c : Begin). eqb c.member i) (b ∷ [])))),
   )
 
   step_shows_more : (step : SuccessionStep) → (more : List Event) × (shown g (succession_step the_rules g t step) i ≡ shown g t i ++ more)

@@ -1,10 +1,10 @@
--- Who hears nothing more of a member casts at most a window more than that one had delivered of it.
+-- A member that hears nothing more of another one casts at most a window more than that one had delivered of it.
 use Rattle.std.specs.Prelude.{◌≡◌, ◌≢◌, ℕ, ◌+◌, ◌<◌, ◌≤◌, List, ◌++◌, Some, Ok, slice_get}
 use Rattle.cb_frames.specs.Fields.{StatusFields, StatusFrame}
 use Rattle.cb_history.specs.Facts.{StatusReceived}
 use Rattle.cb_history.specs.Read.{frame_read}
 use Rattle.cb_history.specs.Answers.{delivered}
-use Rattle.cb_schedules.specs.Schedule.{seat_at, SentFrame, GroupState}
+use Rattle.cb_schedules.specs.Schedule.{seat_at, SentFrame}
 use Rattle.cb_schedules.specs.Messages.{facts_at}
 use Rattle.cb_schedules.specs.SentLaws.{WasSent}
 use Rattle.cb_schedules.specs.Succession.{EndableGroup, IsEndable, the_rules, SuccessionStep, SuccessionState, succession}

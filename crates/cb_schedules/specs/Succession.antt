@@ -1,5 +1,5 @@
 -- Those who go on end a group together at one cut, and begin the next one.
-use Rattle.std.specs.Prelude.{◌≡◌, ℕ, ◌+◌, ◌<◌, ◌≤◌, Bool, true, false, not, ◌&&◌, ◌||◌, ◌==◌, nat_le, nat_lt, List, [], ◌∷◌, ◌++◌, length, map, filter, Option, Some, None, is_some, is_none, bytes_eq, if◌then◌else◌}
+use Rattle.std.specs.Prelude.{ℕ, ◌+◌, ◌<◌, ◌≤◌, Bool, true, false, not, ◌&&◌, ◌||◌, ◌==◌, nat_le, nat_lt, List, [], ◌∷◌, ◌++◌, length, map, filter, Option, Some, None, is_some, is_none, bytes_eq, if◌then◌else◌}
 use Rattle.std.specs.List.{list_all, list_any, filter_map, flat_map}
 use Rattle.cb_times.specs.Order.{field}
 use Rattle.cb_delay.specs.declared.message.Event.{Event}
@@ -21,7 +21,7 @@ pub record Plan : Type 0 where
   pub list : List ℕ
   pub note : List ℕ
 
--- how payloads are read: as a plan, where one is the text of a plan. What is said here holds for every way.
+-- how payloads are read: as a plan, where one is the text of a plan. The laws hold for every way.
 abbrev pub Reading : Type 0
 Reading = List ℕ → Option Plan
 
@@ -145,7 +145,7 @@ the_rules = record { may_end = may_end; may_begin = may_begin; shown_at_begin = 
 -- ---- steps
 
 -- A step of a schedule, in which a cast is made where it is allowed; a member casts the END with this text; or it begins the next group by
--- the plan with this text. What is not allowed changes nothing.
+-- the plan with this text. A step that is not allowed changes nothing.
 pub data SuccessionStep : Type 0 where
   Happens : Step → SuccessionStep
   Ends : ℕ → List ℕ → SuccessionStep

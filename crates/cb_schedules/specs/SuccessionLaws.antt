@@ -1,5 +1,5 @@
 -- Those who begin by one plan have the same cut, and nobody begins beside them.
-use Rattle.std.specs.Prelude.{◌≡◌, ◌↔◌, ◌⊎◌, ℕ, ◌+◌, ◌<◌, ◌≤◌, Bool, true, false, ◌&&◌, ◌==◌, nat_le, List, [], ◌∷◌, ◌++◌, length, Some, slice_get, bytes_eq, if◌then◌else◌}
+use Rattle.std.specs.Prelude.{◌≡◌, ◌↔◌, ◌⊎◌, ℕ, ◌<◌, ◌≤◌, true, false, ◌&&◌, ◌==◌, nat_le, List, [], ◌∷◌, ◌++◌, length, Some, slice_get, bytes_eq, if◌then◌else◌}
 use Rattle.std.specs.List.{list_any}
 use Rattle.cb_times.specs.declared.name.Name.{Name}
 use Rattle.cb_frames.specs.declared.frame.TheConstants.{LAST_NUMBER}
@@ -43,7 +43,7 @@ pub record IsInTheCut (lists : Lists) (text : List ℕ) (plan : Plan) (m : Name)
 
 -- ---- the same cut
 
--- Who has begun was shown exactly the cut of its plan: so those who began by one plan were shown the same.
+-- A member that has begun was shown exactly the cut of its plan: so those who began by one plan were shown the same.
 abbrev pub ExactlyTheCutIsShown : EndableGroup → SuccessionState → Type 0
 ExactlyTheCutIsShown g t =
     (b : Begin) (m : Name) → HasBegun t b
@@ -103,7 +103,7 @@ ShownListsGoOn =
 
 -- ---- nobody beside them
 
--- Where one whom a later plan lists has begun by an earlier one, nobody ever begins by the later one, whatever the lists are.
+-- Once a member has begun, nobody ever begins by a later plan that lists it, whatever the lists are.
 abbrev pub NobodyBeginsByALaterPlan : EndableGroup → SuccessionState → Type 0
 NobodyBeginsByALaterPlan g t =
     (b c : Begin) → HasBegun t b → HasBegun t c → b.plan.number < c.plan.number → is_listed b.member c.plan ≡ true → ⊥
@@ -140,8 +140,7 @@ TheCutIsDelivered g t =
     (b : Begin) (m : Name) → HasBegun t b → IsInTheCut (causal_lists g.setting t.group) b.text b.plan m
     → HasDelivered g.setting t.group b.member m
 
--- and each whom its plan lists has cast that plan's END. So where these are the next group's members, whose plan somebody begins by there,
--- each of them has begun that group.
+-- and each member that its plan lists has cast that plan's END: it was in the group that this plan ends
 abbrev pub WhoIsListedHasEnded : EndableGroup → SuccessionState → Type 0
 WhoIsListedHasEnded g t =
     (b : Begin) (k : ℕ) → HasBegun t b → is_listed k b.plan ≡ true → HasEnded (causal_lists g.setting t.group) k b.text

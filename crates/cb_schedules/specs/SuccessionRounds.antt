@@ -1,5 +1,5 @@
--- What rounds without a silent member do for those who go on.
-use Rattle.std.specs.Prelude.{◌≡◌, ◌≢◌, ℕ, ◌<◌, Bool, true, false, not, ◌||◌, nat_le, nat_lt, List, ◌++◌, map, Some}
+-- Rounds without a silent member, and those who go on.
+use Rattle.std.specs.Prelude.{◌≡◌, ◌≢◌, ℕ, ◌<◌, true, false, not, ◌||◌, nat_le, nat_lt, List, ◌++◌, map, Some}
 use Rattle.std.specs.List.{list_all}
 use Rattle.cb_schedules.specs.Schedule.{Schedule}
 use Rattle.cb_schedules.specs.Messages.{stamped_lists, causal_lists, IsClosedArrival}
@@ -30,7 +30,7 @@ pub record GoesOnBy (g : EndableGroup) (t : SuccessionState) (silent : ℕ) (tex
   pub last : list_all (λ q. nat_le q.number plan.number) (own_plans g.plan_in (stamped_lists g.setting t.group k)) ≡ true
   pub waits : has_begun t.begun k ≡ false
 
--- Where one member is silent, and each whom a plan lists has ended by it, each of these may begin behind the rounds.
+-- If each member that a plan lists has ended by it, each of these may begin behind the rounds, though one other member is silent.
 abbrev pub ADeadMemberIsNotNeeded : Type 0
 ADeadMemberIsNotNeeded =
     (g : EndableGroup) (steps : List SuccessionStep) (silent : ℕ) (text : List ℕ) (plan : Plan) (k : ℕ) → IsEndable g
@@ -49,7 +49,7 @@ pub record ComesLate (g : EndableGroup) (t : SuccessionState) (silent : ℕ) (b 
   pub later : list_all (λ q. not (nat_lt b.plan.number q.number) || is_listed b.member q) (own_plans g.plan_in (stamped_lists g.setting t.group k)) ≡ true
   pub waits : has_begun t.begun k ≡ false
 
--- Where somebody has begun by an earlier plan, each other one who comes late may begin by that plan behind the rounds.
+-- Once somebody has begun by an earlier plan, each other one who comes late may begin by that plan behind the rounds.
 abbrev pub WhoComesLateMayBegin : Type 0
 WhoComesLateMayBegin =
     (g : EndableGroup) (steps : List SuccessionStep) (silent : ℕ) (b : Begin) (k : ℕ) → IsEndable g

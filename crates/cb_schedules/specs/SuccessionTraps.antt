@@ -1,5 +1,5 @@
 -- Other ways to decide, each of which looks good and is wrong.
-use Rattle.std.specs.Prelude.{◌≡◌, ℕ, ◌+◌, Bool, true, false, not, ◌&&◌, ◌||◌, ◌==◌, nat_le, nat_lt, List, [], Option, Some, None, is_some, bytes_eq}
+use Rattle.std.specs.Prelude.{◌≡◌, ℕ, Bool, true, false, not, ◌&&◌, ◌||◌, ◌==◌, nat_le, nat_lt, List, [], Option, Some, None, is_some}
 use Rattle.std.specs.List.{list_all, list_any, filter}
 use Rattle.cb_delay.specs.declared.message.Event.{Event}
 use Rattle.cb_delay.specs.Message.{message_of}
@@ -7,7 +7,7 @@ use Rattle.cb_causality.specs.StampedMachine.{counts_of}
 use Rattle.cb_history.specs.Answers.{is_window_full}
 use Rattle.cb_schedules.specs.Schedule.{IsSetting, seat_at}
 use Rattle.cb_schedules.specs.Messages.{facts_at, stamped_lists}
-use Rattle.cb_schedules.specs.Succession.{Plan, Reading, EndableGroup, IsEndable, is_listed, own_plans, is_end_by, behind_end, Begin, has_begun, is_passed, may_end, may_begin, shown_at_begin, Rules, the_rules, SuccessionStep, SuccessionState, succession}
+use Rattle.cb_schedules.specs.Succession.{Plan, Reading, EndableGroup, IsEndable, is_listed, own_plans, is_end_by, behind_end, has_begun, is_passed, may_end, may_begin, shown_at_begin, Rules, the_rules, SuccessionStep, SuccessionState, succession}
 
 -- decided so, some list of steps leads to where it does not hold
 abbrev pub Breaks : Rules → (EndableGroup → SuccessionState → Type 0) → Type 0

@@ -12,9 +12,9 @@ ghost use Rattle.cb_schedules.specs.SuccessionTraps.{Breaks, NoReserveLeavesNoRo
 ghost use Rattle.cb_schedules.specs.SuccessionTraps.{no_compare, shows_all, takes_older};
 
 /// Those who begin the next group by one plan were shown the same messages: exactly the plan's cut, which is what happened before the
-/// ENDs of those whom it lists. What one of these was shown before it begins is in the cut, and so is each of its casts but later ENDs.
+/// ENDs of those whom it lists. The cut has all that one of these was shown before it begins, and each of its casts but later ENDs.
 ///
-/// The cut is one vector. What those who began were shown, with the part of each other member's list that is in the cut, is a run of the
+/// The cut is one vector. The lists shown to those who began, with the part of each other list that is in the cut, are a run of the
 /// causal machine: so each was shown these messages in an order that causality allows, and each once. No step takes back what was shown.
 ///
 /// It holds for every group, however payloads are read as plans, however many places are kept for ENDs, and after every list of steps,
@@ -39,8 +39,8 @@ pub fn nobody_begins_beside_them()
 {}
 
 /// A member that has begun has delivered the whole cut: when all of a list have begun, none of them lacks any message of the old group.
-/// Each member that the plan of a begin lists has cast that plan's END. As soon as somebody begins a third group by a plan of the second,
-/// each member that this plan lists has begun the second one, in which it cast that END, and nobody needs the first.
+/// Each member that the plan of a begin lists has cast that plan's END. If members cast in a group only once they have begun it, then all
+/// whom a plan of the second group lists have begun that group as soon as somebody begins a third one by it, and none needs the first.
 pub fn the_old_group_is_not_needed()
     ensures delivered { EachSuccession TheCutIsDelivered }
     ensures listed { EachSuccession WhoIsListedHasEnded }
