@@ -1,24 +1,31 @@
 -- The laws of successions, from what holds after every list of steps.
 use Rattle.std.specs.Prelude.{slice_get, bytes_eq, nat_le}
 use Rattle.std.specs.List.{filter, list_any, flat_map}
-use Rattle.std.proofs.Common.{◌≡◌, ℕ, ◌⊎◌, ◌&&◌, true, false, eqb, inl, inr, Option, List, [], ◌∷◌, ◌++◌, Some, None, refl, sym, ◌∙◌, ap, subst, append-nil, append_assoc}
-use Rattle.std.proofs.lemmas.Bool.{cases_Bool, cond_both, and_parts, eqb-true}
+use Rattle.std.proofs.Common.{◌≡◌, ◌≤◌, ℕ, ◌⊎◌, ◌&&◌, true, false, eqb, inl, inr, Option, List, [], ◌∷◌, ◌++◌, Some, None, refl, sym, ◌∙◌, ap, subst, append-nil, append_assoc}
+use Rattle.std.proofs.lemmas.Bool.{cases_Bool, cond_both, and_parts, eqb-true, le-leb, leb-true}
 use Rattle.std.proofs.lemmas.List.Elements.{filter-append}
+use Rattle.cb_times.specs.declared.name.Name.{Name}
 use Rattle.cb_frames.specs.Fields.{One}
 use Rattle.cb_delay.specs.declared.message.Event.{Event}
 use Rattle.cb_delay.specs.declared.message.Event.TheVariants.{Cast}
-use Rattle.cb_causality.specs.Events.{Has}
+use Rattle.cb_causality.specs.declared.event.CausalEvent.{CausalEvent}
+use Rattle.cb_causality.specs.Events.{name_of, Has}
 use Rattle.cb_causality.specs.Parts.{part}
 use Rattle.cb_causality.specs.StampedMachine.{without_times}
 use Rattle.cb_causality.proofs.Extending.{stamped_extends_runs}
+use Rattle.cb_causality.proofs.Names.{IsSound, number_of_had}
+use Rattle.cb_causality.proofs.Parts.{part_has, had_whole}
+use Rattle.cb_causality.proofs.Runs.{run_regular}
+use Rattle.cb_causality.proofs.Stamps.{stamped_is_causal}
+use Rattle.cb_history.proofs.Views.{filter_in}
 use Rattle.cb_history.proofs.Lists.{flat_map-append, one_of}
 use Rattle.cb_schedules.specs.Schedule.{Step, CastStep, ArriveStep, TickStep, HelpStep, step_after}
 use Rattle.cb_schedules.specs.Messages.{stamped_lists, causal_lists}
 use Rattle.cb_schedules.specs.Succession.{Plan, EndableGroup, IsEndable, is_own_end, upto_end, cut_field, Begin, may_talk, may_end, may_begin, shown_at_begin, the_rules, SuccessionStep, Happens, Ends, Begins, SuccessionState, and_happens, and_ends, and_begins, succession_step, succession_from, nobody_yet, succession, shown}
-use Rattle.cb_schedules.specs.SuccessionLaws.{EachSuccession, IsInTheCut, ExactlyTheCutIsShown, TheSameIsShown, WhatWasShownIsInTheCut, CastsAreInTheCut, TheCutIsOneVector, lists_at_the_cut, TheCutIsCausal, ShownListsGoOn, NobodyBeginsByALaterPlan, OneNumberHasOneText, TheLastListGoesOneWay, TheCutIsDelivered, WhoIsListedHasEnded}
+use Rattle.cb_schedules.specs.SuccessionLaws.{EachSuccession, IsInTheCut, ExactlyTheCutIsShown, TheSameIsShown, WhatWasShownIsInTheCut, CastsAreInTheCut, TheCutIsOneVector, cut_told, lists_at_the_cut, TheCutIsCausal, ShownListsGoOn, NobodyBeginsByALaterPlan, OneNumberHasOneText, TheLastListGoesOneWay, TheCutIsDelivered, WhoIsListedHasEnded, TheCutCanBeFollowed}
 use Rattle.cb_schedules.proofs.Courses.{step_goes_on}
 use Rattle.cb_schedules.proofs.EndLists.{upto_stays, upto_all, is_end, filter_none, none_passes, same_text}
-use Rattle.cb_schedules.proofs.Lists.{index_of}
+use Rattle.cb_schedules.proofs.Lists.{index_of, in_by_index}
 use Rattle.cb_schedules.proofs.SuccessionLaws.{IsSucceeding, shown_is_the_cut, shown_before_is_in_cut, casts_are_in_cut, vector_now, cut_is_a_run, shown_at_its_begin, nobody_by_a_later_plan, one_number_one_text, one_way, cut_is_had, listed_has_ended}
 use Rattle.cb_schedules.proofs.SuccessionSteps.{SuccessionSo, successions_are_so, began_has_ended}
 
@@ -59,33 +66,86 @@ module _ (g : EndableGroup) (t : SuccessionState) (so : IsSucceeding g (stamped_
   pub the_cut_is_one_vector : TheCutIsOneVector g t
   the_cut_is_one_vector b m (n, at) one = vector_now g (stamped_lists g.setting t.group) t.begun so n b at m one
 
+  -- two who began by one text have one cut
+  to_b : (b : Begin) (n : ℕ) → slice_get t.begun n ≡ Some b → (l : ℕ) (c : Begin) → slice_get t.begun l ≡ Some c → b.text ≡ c.text → (m : Name)
+      → IsInTheCut (causal_lists g.setting t.group) c.text c.plan m → IsInTheCut (causal_lists g.setting t.group) b.text b.plan m
+  to_b b n at_b l c at_c text m in_cut =
+      let plans : Some c.plan ≡ Some b.plan = sym (so.begins l c at_c).read ∙ ap g.plan_in (sym text) ∙ (so.begins n b at_b).read in
+      let plan : c.plan ≡ b.plan = cc plans in
+      subst (λ (p : Plan). IsInTheCut (causal_lists g.setting t.group) b.text p m) plan
+      (subst (λ (x : List ℕ). IsInTheCut (causal_lists g.setting t.group) x c.plan m) (sym text) in_cut)
+
+  -- each list at the cut is what its member was shown, or the part of its list that is in the cut
+  at_the_cut : (b : Begin) (n : ℕ) → slice_get t.begun n ≡ Some b → (k : ℕ) → (lists_at_the_cut g t b k ≡ part (λ m. nat_le m.number (cut_field b.text b.plan (stamped_lists g.setting t.group b.member) m.sender)) (causal_lists g.setting t.group) k)
+      ⊎ ((m : ℕ) × (c : Begin) × (slice_get t.begun m ≡ Some c) × (c.member ≡ k) × (b.text ≡ c.text)
+      × (lists_at_the_cut g t b k ≡ without_times (upto_end g.plan_in (stamped_lists g.setting t.group k) ++ c.shown)))
+  at_the_cut b n at k =
+      elim (cases_Bool (list_any (λ c. eqb c.member k && bytes_eq b.text c.text) t.begun)) [
+        | inl holds ↦
+            let (c, there, passes) = one_of (λ (c : Begin). eqb c.member k && bytes_eq b.text c.text) t.begun holds in
+            let (m, at_c) = index_of t.begun c there in
+            let both = and_parts (eqb c.member k) (bytes_eq b.text c.text) passes in
+            let member : c.member ≡ k = eqb-true c.member k both.0 in
+            let its : flat_map (λ (d : Begin). d.shown) (filter (λ (d : Begin). eqb d.member k) t.begun) ≡ c.shown =
+            subst (λ (j : ℕ). flat_map (λ (d : Begin). d.shown) (filter (λ (d : Begin). eqb d.member j) t.begun) ≡ c.shown) member
+            (shown_at_its_begin g (stamped_lists g.setting t.group) t.begun so m c at_c) in
+            inr (
+              m,
+              c,
+              at_c,
+              member,
+              same_text b.text c.text both.1,
+              rw holds (ap (λ (es : List Event). without_times (upto_end g.plan_in (stamped_lists g.setting t.group k) ++ es)) its),
+            )
+        | inr fails ↦ inl (rw fails refl)
+      ]
+
   pub the_cut_is_causal : TheCutIsCausal g t
   the_cut_is_causal b (n, at) =
-      cut_is_a_run g (stamped_lists g.setting t.group) t.begun so n b at (lists_at_the_cut g t b) (λ k. each k)
+      cut_is_a_run g (stamped_lists g.setting t.group) t.begun so n b at (lists_at_the_cut g t b) (λ k. at_the_cut b n at k)
+
+  -- what stands in a list at the cut is in the cut
+  stands_in_the_cut : (b : Begin) (n : ℕ) → slice_get t.begun n ≡ Some b → (j : ℕ) (m : Name) → Has (lists_at_the_cut g t b j) m
+      → IsInTheCut (causal_lists g.setting t.group) b.text b.plan m
+  stands_in_the_cut b n at j m h =
+      elim (at_the_cut b n at j) [
+        | inl left ↦
+            let in_part : Has (part (λ x. nat_le x.number (cut_told g t b x.sender)) (causal_lists g.setting t.group) j) m = subst (λ (es : List CausalEvent). Has es m) left h in
+            let whole : Has (causal_lists g.setting t.group j) m = had_whole (λ x. nat_le x.number (cut_told g t b x.sender)) (causal_lists g.setting t.group) j m in_part in
+            let (holds, there) = filter_in (λ e. nat_le (name_of e).number (cut_told g t b (name_of e).sender)) (causal_lists g.setting t.group j) in_part.event
+            (in_by_index (part (λ x. nat_le x.number (cut_told g t b x.sender)) (causal_lists g.setting t.group) j) in_part.index in_part.event in_part.stands) in
+            let kept : nat_le m.number (cut_told g t b m.sender) ≡ true = subst (λ (x : Name). nat_le x.number (cut_told g t b x.sender) ≡ true) in_part.named holds in
+            let one : 1 ≤ m.number = (number_of_had (causal_lists g.setting t.group) sound j m whole).0 in
+            (vector_now g (stamped_lists g.setting t.group) t.begun so n b at m one).1 (leb-true m.number (cut_told g t b m.sender) kept)
+        | inr (l, c, at_c, member, text, is_shown) ↦
+            to_b b n at l c at_c text m
+            ((shown_is_the_cut g (stamped_lists g.setting t.group) t.begun so l c at_c m).0
+            (subst (λ (k : ℕ). Has (without_times (upto_end g.plan_in (stamped_lists g.setting t.group k) ++ c.shown)) m) (sym member)
+            (subst (λ (es : List CausalEvent). Has es m) is_shown h)))
+      ]
     where
-      each : (k : ℕ) → (lists_at_the_cut g t b k ≡ part (λ m. nat_le m.number (cut_field b.text b.plan (stamped_lists g.setting t.group b.member) m.sender)) (causal_lists g.setting t.group) k)
-          ⊎ ((m : ℕ) × (c : Begin) × (slice_get t.begun m ≡ Some c) × (c.member ≡ k) × (b.text ≡ c.text)
-          × (lists_at_the_cut g t b k ≡ without_times (upto_end g.plan_in (stamped_lists g.setting t.group k) ++ c.shown)))
-      each k =
-          elim (cases_Bool (list_any (λ c. eqb c.member k && bytes_eq b.text c.text) t.begun)) [
-            | inl holds ↦
-                let (c, there, passes) = one_of (λ (c : Begin). eqb c.member k && bytes_eq b.text c.text) t.begun holds in
-                let (m, at_c) = index_of t.begun c there in
-                let both = and_parts (eqb c.member k) (bytes_eq b.text c.text) passes in
-                let member : c.member ≡ k = eqb-true c.member k both.0 in
-                let its : flat_map (λ (d : Begin). d.shown) (filter (λ (d : Begin). eqb d.member k) t.begun) ≡ c.shown =
-                subst (λ (j : ℕ). flat_map (λ (d : Begin). d.shown) (filter (λ (d : Begin). eqb d.member j) t.begun) ≡ c.shown) member
-                (shown_at_its_begin g (stamped_lists g.setting t.group) t.begun so m c at_c) in
-                inr (
-                  m,
-                  c,
-                  at_c,
-                  member,
-                  same_text b.text c.text both.1,
-                  rw holds (ap (λ (es : List Event). without_times (upto_end g.plan_in (stamped_lists g.setting t.group k) ++ es)) its),
-                )
-            | inr fails ↦ inl (rw fails refl)
-          ]
+      sound : IsSound (causal_lists g.setting t.group)
+      sound = (run_regular g.setting.group.size (causal_lists g.setting t.group) (stamped_is_causal g.setting.group.size (stamped_lists g.setting t.group) so.run)).sound
+
+  pub the_cut_can_be_followed : TheCutCanBeFollowed g t
+  the_cut_can_be_followed b c j m (n, at_b) (l, at_c) text h =
+      let in_cut : IsInTheCut (causal_lists g.setting t.group) b.text b.plan m = stands_in_the_cut b n at_b j m h in
+      let in_cut_c : IsInTheCut (causal_lists g.setting t.group) c.text c.plan m = to_b c l at_c n b at_b (sym text) m in_cut in
+      elim (at_the_cut b n at_b c.member) [
+        | inl left ↦
+            let whole : Has (causal_lists g.setting t.group c.member) m = cut_is_had g (stamped_lists g.setting t.group) t.begun so l c at_c m in_cut_c in
+            let one : 1 ≤ m.number = (number_of_had (causal_lists g.setting t.group) sound c.member m whole).0 in
+            let kept : nat_le m.number (cut_told g t b m.sender) ≡ true =
+            le-leb m.number (cut_told g t b m.sender) ((vector_now g (stamped_lists g.setting t.group) t.begun so n b at_b m one).0 in_cut) in
+            subst (λ (es : List CausalEvent). Has es m) (sym left) (part_has (λ x. nat_le x.number (cut_told g t b x.sender)) (causal_lists g.setting t.group) c.member m kept whole)
+        | inr (i, d, at_d, member, text_d, is_shown) ↦
+            subst (λ (es : List CausalEvent). Has es m) (sym is_shown)
+            (subst (λ (k : ℕ). Has (without_times (upto_end g.plan_in (stamped_lists g.setting t.group k) ++ d.shown)) m) member
+            ((shown_is_the_cut g (stamped_lists g.setting t.group) t.begun so i d at_d m).1 (to_b d i at_d n b at_b (sym text_d) m in_cut)))
+      ]
+    where
+      sound : IsSound (causal_lists g.setting t.group)
+      sound = (run_regular g.setting.group.size (causal_lists g.setting t.group) (stamped_is_causal g.setting.group.size (stamped_lists g.setting t.group) so.run)).sound
 
   pub the_cut_is_delivered : TheCutIsDelivered g t
   the_cut_is_delivered b m (n, at) in_cut = cut_is_had g (stamped_lists g.setting t.group) t.begun so n b at m in_cut

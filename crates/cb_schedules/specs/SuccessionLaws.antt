@@ -95,6 +95,12 @@ lists_at_the_cut g t b k =
 abbrev pub TheCutIsCausal : EndableGroup → SuccessionState → Type 0
 TheCutIsCausal g t = (b : Begin) → HasBegun t b → Run g.setting.group.size (lists_at_the_cut g t b)
 
+-- There each member that began by this plan has all that anybody has: so these may be the members of a next group, which is put behind.
+abbrev pub TheCutCanBeFollowed : EndableGroup → SuccessionState → Type 0
+TheCutCanBeFollowed g t =
+    (b c : Begin) (j : ℕ) (m : Name) → HasBegun t b → HasBegun t c → b.text ≡ c.text
+    → Has (lists_at_the_cut g t b j) m → Has (lists_at_the_cut g t b c.member) m
+
 -- by no step what was shown is taken back
 abbrev pub ShownListsGoOn : Type 0
 ShownListsGoOn =

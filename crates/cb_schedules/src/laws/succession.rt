@@ -3,7 +3,7 @@
 ghost use Rattle.cb_schedules.specs.LeftOut.{WhoHearsNothingMoreStaysWithin};
 ghost use Rattle.cb_schedules.specs.SuccessionLaws.{CastsAreInTheCut, EachSuccession, EndsHaveRoom, ExactlyTheCutIsShown};
 ghost use Rattle.cb_schedules.specs.SuccessionLaws.{NobodyBeginsByALaterPlan, OneNumberHasOneText};
-ghost use Rattle.cb_schedules.specs.SuccessionLaws.{ShownListsGoOn, TheCutIsCausal, TheCutIsDelivered};
+ghost use Rattle.cb_schedules.specs.SuccessionLaws.{ShownListsGoOn, TheCutCanBeFollowed, TheCutIsCausal, TheCutIsDelivered};
 ghost use Rattle.cb_schedules.specs.SuccessionLaws.{TheCutIsOneVector, TheLastListGoesOneWay, TheSameIsShown};
 ghost use Rattle.cb_schedules.specs.SuccessionLaws.{WhatWasShownIsInTheCut, WhoIsListedHasEnded};
 ghost use Rattle.cb_schedules.specs.SuccessionRestarts.{EachJournaledSuccession, WhatWasShownOutlivesRestarts};
@@ -15,7 +15,8 @@ ghost use Rattle.cb_schedules.specs.SuccessionTraps.{no_compare, shows_all, take
 /// ENDs of those whom it lists. The cut has all that one of these was shown before it begins, and each of its casts but later ENDs.
 ///
 /// The cut is one vector. The lists shown to those who began, with the part of each other list that is in the cut, are a run of the
-/// causal machine: so each was shown these messages in an order that causality allows, and each once. No step takes back what was shown.
+/// causal machine: so each was shown these messages in an order that causality allows, and each once. In that run those who began by the plan have
+/// all that anybody has, as the members of a next group must whose run is put behind. No step takes back what was shown.
 ///
 /// It holds for every group, however payloads are read as plans, however many places are kept for ENDs, and after every list of steps,
 /// whatever is lost, repeated or overtaken and whoever is dead.
@@ -26,6 +27,7 @@ pub fn those_who_begin_have_the_same_cut()
     ensures vector { EachSuccession TheCutIsOneVector }
     ensures causal { EachSuccession TheCutIsCausal }
     ensures casts { EachSuccession CastsAreInTheCut }
+    ensures whole { EachSuccession TheCutCanBeFollowed }
     ensures kept { ShownListsGoOn }
 {}
 
