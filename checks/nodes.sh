@@ -91,17 +91,8 @@ has_all() {
 # each sender's lines by their numbers, none left out
 is_in_order() { awk '{ split($1, n, "."); if (n[2] != last[n[1]] + 1) bad = 1; last[n[1]] = n[2] } END { exit bad }' "$1"; }
 
-# joined FILE..: the trace of these journals, in the order of the members' numbers
-joined() {
-    head -n 1 "$1" | cut -d ' ' -f 1-8
-    for each; do
-        echo "member $(head -n 1 "$each" | cut -d ' ' -f 10) entries $(($(wc -l < "$each") - 1))"
-        tail -n +2 "$each"
-    done
-    echo end
-}
 is_run() {
-    joined "$@" > joined && "$confer" audit < joined > script && grep -q '^cast ' script
+    "$top/contrib/join-journals.sh" "$@" > joined && "$confer" audit < joined > script && grep -q '^cast ' script
 }
 
 # all_end_well WHAT N K: N members, each with K lines

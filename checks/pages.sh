@@ -1,21 +1,21 @@
 #!/usr/bin/env bash
 # Looks at the pages: ends with 1, and a line for each fault, where
 #   - a line of README.md or docs/GUIDE.md has more than 120 characters, or a paragraph of either more than five lines; a line of text of any
-#     page in docs/ but that of the mutants has more than 120; README.md or docs/PERFORMANCE.md more than 120 lines;
-#   - a page has a word that was exchanged for a better one;
+#     other page has more than 120; README.md or docs/PERFORMANCE.md more than 120 lines;
+#   - a page has a word that was exchanged for a better one, or checks/words.py counts more of a phrase than its limit;
 #   - a measured figure of the guide does not stand in docs/PERFORMANCE.md;
 #   - a link leads nowhere, to a file or to a heading, or a comment or script names a page of docs/ that is not there;
 #   - a code block differs from the text that it shows, or a fenced block is not closed;
-#   - docs/WRONG_BODIES.md and the mutants differ: an edit has no row or two, a row no edit, or the row stands under the wrong heading; or the
-#     text that an edit exchanges does not stand there once, or more than ten edits of a crate are in CI;
+#   - docs/PROMISES.md is not what checks/promises.py makes of the contracts;
+#   - checks/mutants.py finds that the mutants and checks/wrong-bodies/refused.tsv differ;
 #   - an example does not run, or prints something else.
 # In the pages a block ```sh is an example, run by bash at the top of a scratch copy. It has to end with status 0, or N after `sh status=N`.
-# Where the next block is ```text, that is what it prints: `..` stands there for any text, and alone on a line for any lines. One after
+# Where the next block is ```text without a PATH, that is what it prints: `..` stands there for any text, and alone on a line for any lines. One after
 # `sh long` is not run. A block ```rust PATH#MARK shows the lines of PATH between `// MARK: begin` and `// MARK: end`; without a mark
-# it shows some lines of PATH. So do ```c and, with `#` for `//`, ```python. In the pages of
+# it shows some lines of PATH. So do ```c, ```text and, with `#` for `//`, ```python. In the pages of
 # bindings/ a block without PATH is left to the tests there.
 #   checks/pages.sh          all of it; an example takes a minute or two. JOBS=4 runs four at a time; two if not said
-#   checks/pages.sh text     all but the examples, in a second
+#   checks/pages.sh text     all but the examples, in some seconds
 #   checks/pages.sh WORD     all, but of the examples only those whose commands have this word
 set -u
 top=$(cd "$(dirname "$0")/.." && pwd)
@@ -26,7 +26,7 @@ import concurrent.futures, os, re, shutil, subprocess, sys, tempfile, time
 top, what, jobs = sys.argv[1], sys.argv[2], int(sys.argv[3])
 NARROW = ["README.md", "docs/GUIDE.md"]
 MOST_LINES = {"README.md": 120, "docs/PERFORMANCE.md": 120}
-WIDE = ["docs/WRONG_BODIES.md", "schedules/README.md"]
+WIDE = ["schedules/README.md"]
 OLD_WORDS = r"\b(puts? out|lets? go of|told|(?:seen|shown) twice|beside the gate|by turns)\b"
 RUN = ["README.md", "docs/GUIDE.md", "docs/PROGRAM.md"]
 MOST_CHARACTERS, MOST_PARAGRAPH_LINES, MOST_SECONDS = 120, 5, 900
@@ -94,6 +94,7 @@ def look_at_blocks(page, text):
 
 def look_at_text(page, text):
     lines = text.splitlines()
+    made_from = next((number for number, line in enumerate(lines, 1) if line.startswith("<!-- made by ")), len(lines) + 1)
     if len(lines) > MOST_LINES.get(page, len(lines)):
         fault(page, len(lines), f"{len(lines)} lines, more than {MOST_LINES[page]}")
     for number, line, is_code in with_fences(text):
@@ -101,7 +102,7 @@ def look_at_text(page, text):
         if len(line) > MOST_CHARACTERS and not is_free:
             fault(page, number, f"{len(line)} characters, more than {MOST_CHARACTERS}")
         old = re.search(OLD_WORDS, re.sub(r"`[^`]*`", "", line), re.I)
-        if old and not is_code:
+        if old and not is_code and number < made_from:
             fault(page, number, f"\"{old[1]}\" is no word of these pages")
 
 
@@ -159,6 +160,12 @@ def shown_at(path, mark):
     return [found.splitlines() for _, found in re.findall(rf"^(//|#) {mark}: begin\n(.*?)^\1 {mark}: end$", read(path), re.S | re.M)]
 
 
+def look_with(*command):
+    looked = subprocess.run([sys.executable, *command], capture_output=True, text=True)
+    if looked.returncode:
+        fault(command[0], 1, f"it ends with {looked.returncode}\n{looked.stdout}{looked.stderr}")
+
+
 def stands_in(path, body):
     lines = read(path).splitlines()
     return any(lines[at : at + len(body)] == body for at in range(len(lines)))
@@ -166,71 +173,13 @@ def stands_in(path, body):
 
 def look_at_code(page, text):
     for number, words, body in blocks(text):
-        if words[:1] not in (["rust"], ["c"], ["python"]) or (page.startswith("bindings/") and len(words) == 1):
+        if words[:1] not in (["rust"], ["c"], ["python"], ["text"]) or words == ["text"] or (page.startswith("bindings/") and len(words) == 1):
             continue
         path, _, mark = (words + [""])[1].partition("#")
         if not os.path.isfile(path):
             fault(page, number, "the code stands in no file")
         elif not (body in shown_at(path, mark) if mark else stands_in(path, body)):
             fault(page, number, f"the code is not that of {path}")
-
-
-def mutants():
-    """The mutants: crate and name of each, whether it is in CI, and its file."""
-    for path in names:
-        found = re.fullmatch(r"crates/(\w+)/must-fail/(\w+)\.edit", path) or re.fullmatch(r"checks/wrong-bodies/(\w+)/(\w+)\.edit", path)
-        if found:
-            yield found[1], found[2], path.startswith("crates/"), path
-
-
-def rows_of_mutants(page):
-    """The rows of the page's tables: line, crate, name, and whether the heading says that it is in CI."""
-    crate = in_ci = None
-    for number, line, _ in with_fences(read(page)):
-        crate = (re.match(r"## `(\w+)`", line) or [0, crate])[1]
-        heading = re.match(r"(In|Not in|None in) CI\b", line)
-        in_ci = heading[1] == "In" if heading else in_ci
-        name = re.match(r"\| `(\w+)` \|", line)
-        if name:
-            yield number, crate, name[1], in_ci
-
-
-def look_at_edit(crate, path):
-    text, file, old = {}, None, None
-    for number, line in enumerate(read(path).splitlines(), 1):
-        word, _, rest = line.partition(": ")
-        if word == "file":
-            file = rest
-            if not os.path.isfile(f"crates/{crate}/{file}"):
-                fault(path, number, f"{file} is not there")
-                return
-            text.setdefault(file, read(f"crates/{crate}/{file}"))
-        elif word == "old":
-            old = rest
-            if text[file].count(old) != 1:
-                fault(path, number, f"the text stands {text[file].count(old)} times in {file}")
-        elif word.rstrip(":") == "new":
-            text[file] = text[file].replace(old, rest, 1)
-
-
-def look_at_mutants(page):
-    there = {(crate, name): (in_ci, path) for crate, name, in_ci, path in mutants()}
-    seen = set()
-    for number, crate, name, in_ci in rows_of_mutants(page):
-        if (crate, name) not in there:
-            fault(page, number, f"{crate} has no mutant {name}")
-        elif (crate, name) in seen:
-            fault(page, number, f"{name} has two rows")
-        elif there[crate, name][0] != in_ci:
-            fault(page, number, f"{name} stands under the wrong heading")
-        seen.add((crate, name))
-    for (crate, name), (_, path) in there.items():
-        if (crate, name) not in seen:
-            fault(path, 1, f"it has no row in {page}")
-        look_at_edit(crate, path)
-    for crate in {crate for crate, _ in there}:
-        if sum(of == crate and in_ci for (of, _), (in_ci, _) in there.items()) > 10:
-            fault(f"crates/{crate}/must-fail", 1, "more than ten mutants in CI")
 
 
 def examples(page, text):
@@ -241,7 +190,7 @@ def examples(page, text):
             continue
         status = next((int(word[7:]) for word in words if word.startswith("status=")), 0)
         behind = found[place + 1] if place + 1 < len(found) else (0, [], [])
-        yield page, number, "\n".join(body), status, behind[2] if behind[1][:1] == ["text"] else None
+        yield page, number, "\n".join(body), status, behind[2] if behind[1] == ["text"] else None
 
 
 def pattern(lines):
@@ -290,8 +239,10 @@ for page in (name for name in names if name.endswith(".md")):
         look_at_paragraphs(page, text)
     if page in RUN:
         todo.extend(examples(page, text))
-look_at_mutants("docs/WRONG_BODIES.md")
 look_at_figures("docs/GUIDE.md", "## Memory")
+look_with("checks/promises.py")
+look_with("checks/words.py")
+look_with("checks/mutants.py", "check")
 for path in names:
     if path.endswith((".rt", ".antt", ".sh", ".py", ".md")):
         look_at_names(path)

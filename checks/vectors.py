@@ -1,10 +1,10 @@
 #!/usr/bin/env python3
-"""Runs what docs/PROTOCOL.md and docs/PROGRAM.md show by the program, as the trial build makes it, and compares.
+"""Runs the vectors of docs/PROTOCOL.md and the examples of examples/runs.txt by the program, as the trial build makes it, and compares.
 
 In PROTOCOL a line '`confer expand ..`, alone:' or '.., in order:' is followed by a table: a frame, and what is printed of it, a
-line for each message of a burst.
-In PROGRAM a line '`confer ..`, status S:' is followed by two blocks: the input, and what is printed of it.
-A line that begins with '`confer' and has no such form, or nothing behind it, is a fault before anything is run.
+line for each message of a burst. A line that begins with '`confer' and has no such form, or no table, is a fault before anything
+is run. In runs.txt a line is 'FILE STATUS WORDS ..': FILE is the input, and FILE.out what is printed.
+A file of examples/ with an output that runs.txt does not name is such a fault too.
 One build for each command line, some two minutes each: checks/vectors.py [PART OF A COMMAND LINE]
 checks/vectors.py list prints what would be run, in a second.
 """
@@ -51,16 +51,15 @@ def vectors(text):
             yield marked[1], given, printed, int("refused" in printed)
 
 
-def examples(text):
+def examples(folder):
     """The same for each example."""
-    form = r"^`confer ([^`]*)`, status (\d):\n\n```\n(.*?)```\n[^`]*?\n```\n(.*?)```$"
-    begun = [mark.start() for mark in re.finditer(f"^{MARK}$", text, re.M)]
-    for found in re.finditer(form, text, re.M | re.S):
-        begun.remove(found.start())
-        yield found[1], found[3], found[4], int(found[2])
-    for place in begun:
-        line = text[:place].count("\n") + 1
-        sys.exit(f"docs/PROGRAM.md:{line}: no example: {text[place:].splitlines()[0]}")
+    lines = (folder / "runs.txt").read_text().splitlines()
+    listed = [line.split() for line in lines if not line.startswith("#")]
+    outputs = {path.name for path in folder.glob("*.out")}
+    if outputs != {f"{name}.out" for name, *_ in listed}:
+        sys.exit(f"examples/runs.txt: its files and the outputs of examples/ differ: {sorted(outputs)}")
+    for name, status, *words in listed:
+        yield " ".join(words), (folder / name).read_text(), (folder / f"{name}.out").read_text(), int(status)
 
 
 def run(command, cases):
@@ -84,10 +83,9 @@ def run(command, cases):
 def main():
     part = sys.argv[1] if len(sys.argv) > 1 else ""
     wanted = {}
-    for page, read in (("PROTOCOL.md", vectors), ("PROGRAM.md", examples)):
-        for command, given, printed, status in read((TOP / "docs" / page).read_text()):
-            if part == "list" or part in command:
-                wanted.setdefault(command, []).append((given, printed, status))
+    for command, given, printed, status in [*vectors((TOP / "docs/PROTOCOL.md").read_text()), *examples(TOP / "examples")]:
+        if part == "list" or part in command:
+            wanted.setdefault(command, []).append((given, printed, status))
     if part == "list":
         for command, cases in wanted.items():
             print(f"confer {command}: {len(cases)} runs")

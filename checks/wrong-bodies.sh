@@ -6,7 +6,7 @@
 #   checks/wrong-bodies.sh [CRATE..]      those crates, or all that have such edits
 #   EDITS='NAME ..' checks/wrong-bodies.sh CRATE      those edits alone
 #   checks/wrong-calls.sh      those of cb_handle and jolunza, whose tests are the cases of bindings/c/calls.c
-#   FILL=1 checks/wrong-bodies.sh ..      writes the tests that refuse each, two at most, into the last column of docs/WRONG_BODIES.md
+#   FILL=1 checks/wrong-bodies.sh ..      writes the tests that refuse each, two at most, into checks/wrong-bodies/refused.tsv
 set -u
 top=$(cd "$(dirname "$0")/.." && pwd)
 work=$(mktemp -d)
@@ -15,28 +15,6 @@ trap 'rm -rf "$work"' EXIT
 say() {
     echo "$*"
     echo "$*" >> "$work/results"
-}
-
-# writes the tests of the results into the page's tables
-fill() {
-    perl -e '
-        my ($results, $page) = @ARGV;
-        my (%refused, $crate);
-        open my $in, "<", $results or die "$results: $!\n";
-        while (<$in>) {
-            my ($of, $edit, $how, @tests) = split;
-            $refused{"$of $edit"} = join ", ", map { "`$_`" } grep { defined } @tests[0, 1] if $how eq "refused-by-test";
-        }
-        open my $from, "<", $page or die "$page: $!\n";
-        my @lines = <$from>;
-        for (@lines) {
-            $crate = $1 if /^## `(\w+)`/;
-            my $tests = /^\| `(\w+)` \|/ ? $refused{"$crate $1"} : undef;
-            s/[^|]*\|$/ $tests |/ if defined $tests;
-        }
-        open my $to, ">", $page or die "$page: $!\n";
-        print $to @lines;
-    ' "$work/results" "$top/docs/WRONG_BODIES.md"
 }
 
 # the crate whose tests run on a mutant of the crate; `inner-tests` is `checks/inner-tests.sh` for that crate
@@ -77,7 +55,7 @@ try() {
         if [ "$of" = inner-tests ]; then
             shown=$("$copy/checks/inner-tests.sh" "$crate" 2>&1)
         else
-            shown=$(cd "$copy/crates/$of" && rt try --test 2>&1)
+            shown=$(cd "$copy/crates/$of" && rt try --test --seconds 600 2>&1)
         fi
         refusing=$(grep -E '^test .* \.\.\. ' <<< "$shown" | grep -vE '\.\.\. (ok|ignored)$' | awk '{ n = split($2, path, "::"); print path[n] }')
         [ -z "$refusing" ] || break
@@ -119,5 +97,5 @@ while [ "$running" -gt 0 ]; do
     wait -n || status=1
     running=$((running - 1))
 done
-[ -z "${FILL:-}" ] || fill
+[ -z "${FILL:-}" ] || "$top/checks/mutants.py" fill "$work/results"
 exit "$status"

@@ -2,7 +2,7 @@
  * One member of a causal group (CBCAST of Birman, Schiper and Stephenson, 1991), proved. C99 or later, x86-64 Linux.
  *
  * A member is a machine without clock, thread or socket: your program passes it the received bytes, sends the frames that it
- * leaves, and ticks it now and then. Each call returns a code. JOLUNZA_DONE is 0. After any other code the member, its events, its
+ * makes, and ticks it now and then. Each call returns a code. JOLUNZA_DONE is 0. After any other code the member, its events, its
  * history and the frames of the last call that was done are unchanged, and the call has filled nothing but, for jolunza_resume,
  * the line at fault.
  *
@@ -18,7 +18,7 @@
  *  2. An open handle is never copied, and its memory stays until it is closed. It may be moved while no call runs.
  *  3. One call at a time on a handle. It may go to another thread where the two threads agree on when (a mutex, a join).
  *  4. A pointer is never NULL, not for a length of 0 either (see jolunza_bytes). It is aligned as its type asks, and the memory
- *     there has at least the readable (const) or writable elements that the length or capacity says.
+ *     there has at least the readable (const) or writable elements that the length or capacity asks for.
  *  5. The memory that a call reads, the memory that it fills and the handle do not overlap, and nobody else touches them during
  *     the call.
  *  6. One handle in the world holds a member number of a group number, size and window, and it is opened once: the others ignore
@@ -70,7 +70,7 @@ enum jolunza_code {
     JOLUNZA_HISTORY_FULL = 8,     /* cast, cast_burst, receive, tick: the history has reached its limit; begin a new group
                                      number. Never without a history */
     JOLUNZA_OTHER_GROUP = 9,      /* receive: drop the frame */
-    JOLUNZA_IMPOSSIBLE = 10,      /* receive: the frame says of this member what it never did; drop the frame */
+    JOLUNZA_IMPOSSIBLE = 10,      /* receive: the frame claims of this member what it never did; drop the frame */
     JOLUNZA_TOO_FAR = 11,         /* receive: the frame is beyond the window; drop the frame, it comes again */
     JOLUNZA_MALFORMED = 12,       /* receive, sender: the bytes are no frame; drop them */
     JOLUNZA_NONE_THERE = 13,      /* frame, event, entry, journal_line: the index is not below the count; receive_loaded,
@@ -222,10 +222,10 @@ uint32_t jolunza_cast(jolunza_handle *handle, const uint8_t *payload, size_t len
 
 /*
  * Casts `count` messages in one frame, to all others; the last `count` events are the messages. Their payloads lie one after
- * another from the beginning of `payloads` on, which has `length` bytes, and `lengths` says how long each is. A count of 1 is also
- * a burst. Bytes after the last payload are not read. Each message has a number and a time of its own, as if it were cast alone;
+ * another from the beginning of `payloads` on, which has `length` bytes, and `lengths` has the length of each. A count of 1 is
+ * also a burst. Bytes after the last payload are not read. Each message has a number and a time of its own, as if it were cast alone;
  * all of them make one entry.
- * NONE_THERE where the lengths say more bytes than `length`, before EMPTY_BURST, BURST_TOO_LONG, PAYLOAD_TOO_LONG, WINDOW_FULL,
+ * NONE_THERE where the lengths ask for more bytes than `length`, before EMPTY_BURST, BURST_TOO_LONG, PAYLOAD_TOO_LONG, WINDOW_FULL,
  * HISTORY_FULL, or NO_MEMORY.
  */
 uint32_t jolunza_cast_burst(jolunza_handle *handle, const uint8_t *payloads, size_t length, const size_t *lengths, size_t count);
@@ -257,11 +257,11 @@ uint32_t jolunza_receive_loaded(jolunza_handle *handle, size_t first, size_t len
 
 /*
  * Takes `count` parts of the loaded bytes in one call, one after another as jolunza_receive_loaded takes one: the first part from
- * `first` on, each other from the end of the one before it on, and `lengths` says how long each is. `taken` tells how many were
+ * `first` on, each other from the end of the one before it on, and `lengths` has the length of each. `taken` is how many were
  * taken. At least one is; else the code is that of the first part, or NONE_THERE where `count` is 0, and nothing has changed.
- * A part that leaves frames to be sent is the last that is taken, and the frames are its own. Fewer than `count` are taken also
- * where the next part is refused: call again from that part on, and the code tells why. jolunza_count tells what the parts have
- * done: without a history events and entries are those of all parts of the call.
+ * A part with frames to be sent is the last that is taken, and the frames are its own. Fewer than `count` are taken also where
+ * the next part is refused: call again from that part on, and the code is the reason. jolunza_count counts the work of all parts:
+ * without a history events and entries are those of all parts of the call.
  */
 uint32_t jolunza_receive_parts(jolunza_handle *handle, size_t first, const size_t *lengths, size_t count, size_t *taken);
 
@@ -288,12 +288,12 @@ uint32_t jolunza_help_among(jolunza_handle *handle, uint32_t member, const uint3
 
 uint32_t jolunza_count(jolunza_handle *handle, jolunza_counts *counts);
 
-/* Frame `index` of the last call, from 0. Its first `capacity` bytes are copied; head->length tells how many it has. */
+/* Frame `index` of the last call, from 0. Its first `capacity` bytes are copied; head->length is how many it has. */
 uint32_t jolunza_frame(jolunza_handle *handle, size_t index, jolunza_frame_head *head, uint8_t *bytes, size_t capacity);
 
 /*
  * Copies the frames of the last call from `first` on, all that fit: their heads, and their bytes, one after another.
- * `count` tells how many; it is 0 where there are none from `first` on, or where the next does not fit.
+ * `count` is how many; it is 0 where there are none from `first` on, or where the next does not fit.
  */
 uint32_t jolunza_frames(jolunza_handle *handle, size_t first, jolunza_frame_head *heads, size_t heads_capacity,
                         uint8_t *bytes, size_t capacity, size_t *count);
@@ -344,7 +344,7 @@ uint32_t jolunza_waiting(jolunza_handle *handle, uint32_t *count);
  */
 uint32_t jolunza_waits_for(jolunza_handle *handle, uint32_t member, jolunza_delayed *delayed);
 
-/* The casts of another member that are missing, as rising ranges, as far as they fit; `count` tells how many there are. */
+/* The casts of another member that are missing, as rising ranges, as far as they fit; `count` is how many there are. */
 uint32_t jolunza_missing(jolunza_handle *handle, uint32_t member, jolunza_range *ranges, size_t capacity, size_t *count);
 
 /*
@@ -357,11 +357,11 @@ uint32_t jolunza_missing(jolunza_handle *handle, uint32_t member, jolunza_range 
 uint32_t jolunza_resume(jolunza_handle *handle, const uint8_t *bytes, size_t length, size_t history_max,
                         jolunza_journal *journal);
 
-/* The head line of the member's journal with its line feed, as far as it fits; `length` tells its bytes. Or NO_MEMORY. */
+/* The head line of the member's journal with its line feed, as far as it fits; `length` is its number of bytes. Or NO_MEMORY. */
 uint32_t jolunza_journal_head(jolunza_handle *handle, uint8_t *text, size_t capacity, size_t *length);
 
 /*
- * The line of entry `index`, from 0, with its line feed, as far as it fits; `length` tells how many bytes it has, at most
+ * The line of entry `index`, from 0, with its line feed, as far as it fits; `length` is how many bytes it has, at most
  * JOLUNZA_LONGEST_LINE. NONE_THERE where there is no such entry, or NO_MEMORY.
  * After each cast, receive and tick that was done write the lines of all entries that it added; jolunza_receive_parts may add
  * several. They are those from the old counts.entries on; without a history all, 0 to counts.entries - 1, and only until the next

@@ -1,15 +1,15 @@
 """One member of a causal group (CBCAST of Birman, Schiper and Stephenson, 1991), proved: a shell of ctypes over libjolunza.so.
 
-A member is a machine without clock, thread or socket. The program hands it the received frames, and ticks it now and then. Each call
-answers an `Output`: the frames to be sent, and the events to be shown. A call that is refused raises a `Refusal`, and changes nothing;
-the header `bindings/c/jolunza.h` says of each call what is refused.
+A member is a machine without clock, thread or socket. The program passes it the received frames, and ticks it now and then. Each call
+returns an `Output`: the frames to be sent, and the events to be shown. A call that is refused raises a `Refusal`, and changes nothing;
+the header `bindings/c/jolunza.h` lists the refusals of each call.
 
     member = Member(group=7, size=3, window=16, me=0)
     output = member.cast(b"when?")
     for frame in output.frames:
         send(frame.to, frame.bytes)  # `to` is None for all others
 
-A `Journal` is a member that comes back after its process was killed: a file has what it did.
+A `Journal` is a member that comes back after its process was killed: a file records its calls.
 
 Linux on x86-64, Python 3.9 or later, the standard library alone.
 """
@@ -28,7 +28,7 @@ import platform
 import sys
 import threading
 from ctypes import POINTER, Structure, byref, c_bool, c_char_p, c_size_t, c_uint8, c_uint32, c_void_p
-from typing import Any, Iterator, NamedTuple, Optional, Sequence, TypeVar, Union
+from typing import Any, Iterable, Iterator, NamedTuple, Optional, Sequence, TypeVar, Union
 
 LONGEST_PAYLOAD = 1024
 LONGEST_FRAME = 1456
@@ -42,7 +42,7 @@ Given = Union[bytes, bytearray, memoryview]
 
 
 class Code(enum.IntEnum):
-    """The answers of the calls: the names of the header without `JOLUNZA_`. The header says what each means and what to do."""
+    """The answers of the calls: the names of the header without `JOLUNZA_`. The header explains what each means and what to do."""
 
     DONE = 0
     CLOSED = 1
@@ -119,7 +119,7 @@ class JolunzaError(Exception):
 
 
 class Refusal(JolunzaError):
-    """A call was refused, and nothing has changed. `code` says why, and `call` is the name of the call. BAD_LINE and NOT_LEGAL have the
+    """A call was refused, and nothing has changed. `code` is the reason, and `call` is the name of the call. BAD_LINE and NOT_LEGAL have the
     `line` of the journal, the head line being 1; `path` names the file, where the journal is one."""
 
     def __init__(self, code: Code, call: str, line: Optional[int] = None, path: Optional[str] = None) -> None:
@@ -247,6 +247,42 @@ class Delayed(NamedTuple):
 
     name: Name
     awaits: Optional[Awaited]
+
+
+class Call(NamedTuple):
+    """A call of a member, for `Journal.turn`: what the member's method of that name does."""
+
+    name: str
+    given: tuple[Any, ...] = ()
+
+    @staticmethod
+    def cast(payload: Given) -> Call:
+        given = _given(payload)
+        return Call("cast", (given, len(given)))
+
+    @staticmethod
+    def cast_burst(payloads: Sequence[Given]) -> Call:
+        given = [_given(payload) for payload in payloads]
+        joined, lengths = b"".join(given), (c_size_t * len(given))(*map(len, given))
+        return Call("cast_burst", (joined, len(joined), lengths, len(given)))
+
+    @staticmethod
+    def receive(frame: Given) -> Call:
+        given = _given(frame)
+        return Call("receive", (given, len(given)))
+
+    @staticmethod
+    def tick() -> Call:
+        return Call("tick")
+
+    @staticmethod
+    def help(member: int) -> Call:
+        return Call("help", (_member(member),))
+
+    @staticmethod
+    def help_among(member: int, members: Sequence[int]) -> Call:
+        given = (c_uint32 * len(members))(*map(_member, members))
+        return Call("help_among", (_member(member), given, len(given)))
 
 
 class Resumed(NamedTuple):
@@ -379,8 +415,8 @@ FUNCTIONS: dict[str, tuple[Any, list[tuple[str, Any]]]] = {
 
 
 def library_path() -> str:
-    """Where the library is: in the folder JOLUNZA_LIB where that is set, else in the first of these folders that contains it: this module's,
-    bindings/out, which bindings/build.sh fills, and bindings/prebuilt. Else it is where the system's loader looks."""
+    """The path of the library: in the folder JOLUNZA_LIB if that is set, else in the first of these folders that contains it: this module's,
+    bindings/out, which bindings/build.sh fills, and bindings/prebuilt. Else the system's loader looks for it."""
     folder = os.environ.get("JOLUNZA_LIB")
     if folder:
         return os.path.join(os.path.abspath(folder), LIBRARY)
@@ -407,7 +443,7 @@ def library() -> ctypes.CDLL:
 
 
 def sender(frame: Given) -> tuple[int, int]:
-    """The group number of a frame, and which member sent it: of a request or a help frame the one that asks. Only what the frame says:
+    """The group number of a frame, and which member sent it: of a request or a help frame the one that asks. They are only claims of the frame:
     anybody can write it. MALFORMED where the bytes are no frame."""
     given, group, member = _given(frame), c_uint32(), c_uint32()
     code = library().jolunza_sender(given, len(given), byref(group), byref(member))
@@ -437,11 +473,11 @@ _AMember = TypeVar("_AMember", bound="Member")
 
 
 class Member:
-    """Opens a member; `close`, the end of a `with`, or its last use frees it. Its `settings` say which one it is. Each member number of a
+    """Opens a member; `close`, the end of a `with`, or its last use frees it. Its `settings` name it. Each member number of a
     group is opened once in the world, and a forked process uses no member of its parent. A `Journal` comes back.
 
-    Threads may share a member: a call waits for the one before, and its answer is of this call alone. A signal handler makes no call, since
-    it would wait for ever; an exception that it raises during a call takes the answer with it.
+    Threads may share a member: a call waits for the one before, and its output belongs to this call alone. A signal handler makes no call, since
+    it would wait for ever; an exception that it raises during a call loses the output.
 
     It keeps no history, its memory stays bounded, and HISTORY_FULL never comes. With a history, of at most `history_max` entries, an
     audit can read all that it did.
@@ -509,21 +545,17 @@ class Member:
     def cast(self, payload: Given) -> Output:
         """Casts a message. The one frame is for all others, and the one event is the message. After WINDOW_FULL keep the payload, and cast
         it again when frames have come."""
-        given = _given(payload)
-        return self._done("cast", given, len(given))
+        return self._done(Call.cast(payload))
 
     def cast_burst(self, payloads: Sequence[Given]) -> Output:
         """Casts the messages of a burst, 1 to 32, in one frame, which is for all others; the events are the messages, each with a number
         and a time of its own. There is one entry of all."""
-        given = [_given(payload) for payload in payloads]
-        joined, lengths = b"".join(given), (c_size_t * len(given))(*map(len, given))
-        return self._done("cast_burst", joined, len(joined), lengths, len(given))
+        return self._done(Call.cast_burst(payloads))
 
     def receive(self, frame: Given) -> Output:
         """Takes received bytes: one frame, whole. The events are what it delivers; the frames answer a request for casts of this member, or
         a help frame, which asks this member for casts of another. If the refusal `is_frame_fault`, drop the frame and continue."""
-        given = _given(frame)
-        return self._received("receive", given, len(given))
+        return self._done(Call.receive(frame))
 
     def load(self, frames: Given) -> None:
         """For many frames at once: copies bytes in, in place of those that were loaded before. They stay over every other call."""
@@ -534,35 +566,33 @@ class Member:
     def receive_loaded(self, first: int, length: int) -> Output:
         """Takes `length` of the loaded bytes, from the one that has `first` before it: one frame, whole, as `receive` takes it. NONE_THERE
         where not all of them are loaded."""
-        return self._received("receive_loaded", _number(first, 64), _number(length, 64))
+        return self._done(Call("receive_loaded", (_number(first, 64), _number(length, 64))))
 
     def receive_parts(self, first: int, lengths: Sequence[int]) -> tuple[int, Output]:
         """Takes parts of the loaded bytes in one call, one after another as `receive_loaded` takes one: the first part from the byte that
-        has `first` before it, each other from the end of the one before it on, and `lengths` says how long each is. Answers how many were
-        taken, and what they did. One at least is, else the refusal is that of the first part, and nothing has changed. A part that leaves
-        frames to be sent is the last that is taken. Else fewer than all are taken where the next part is refused: call again from that part
-        on."""
+        has `first` before it, each other from the end of the one before it on, with these `lengths`. Returns how many were taken, and their
+        output. At least one is taken; else the refusal is that of the first part, and nothing has changed. A part with frames to be sent is
+        the last that is taken. Fewer than all are also taken if the next part is refused: call again from that part on."""
         numbers, taken = [_number(value, 64) for value in (first, *lengths)], c_size_t()
         given = (c_size_t * (len(numbers) - 1))(*numbers[1:])
-        output = self._done("receive_parts", numbers[0], given, len(given), byref(taken))
+        output = self._done(Call("receive_parts", (numbers[0], given, len(given), byref(taken))))
         return taken.value, output
 
     def tick(self) -> Output:
         """The frames are the status, to all others, and a request to each member of whom something is missing."""
-        return self._done("tick")
+        return self._done(Call.tick())
 
     def help(self, member: int) -> Output:
         """Asks a third member for the missing casts of another member, for where that one is silent: the one frame is for the first member,
         other than both, that is known to have delivered the first of them. There is none where none is missing, or nobody is known to
         have it. The member stays as it is."""
-        return self._done("help", _member(member))
+        return self._done(Call.help(member))
 
     def help_among(self, member: int, members: Sequence[int]) -> Output:
         """Asks as `help` does, but only one of these members: the first that is known to have delivered the first missing cast. Pass the
         members that you still hear from, so that no silent one is asked. This member's number and that of the member whose casts are
         missing are passed over among them. BAD_MEMBER also of a number among them that no member has."""
-        given = (c_uint32 * len(members))(*map(_member, members))
-        return self._done("help_among", _member(member), given, len(given))
+        return self._done(Call.help_among(member, members))
 
     def counts(self) -> Counts:
         counts = jolunza_counts()
@@ -572,7 +602,7 @@ class Member:
 
     def events(self, first: int = 0) -> Iterator[Event]:
         """The casts and deliveries of the history in order, from the one that has `first` before it. Without a history there are those that
-        `counts` says: before its first call a member that came back has all of its journal."""
+        `counts` counts: before its first call a member that came back has all of its journal."""
         with self._lock:
             more = self._events(_number(first, 64))
         while more:
@@ -582,7 +612,7 @@ class Member:
                 more = self._events(first)
 
     def entries(self, first: int = 0) -> Iterator[Entry]:
-        """The history in its order, from the entry that has `first` before it. Without a history there are those that `counts` says."""
+        """The history in its order, from the entry that has `first` before it. Without a history there are those that `counts` counts."""
         for index in range(_number(first, 64), self.counts().entries):
             with self._lock:
                 entry = self._entry(index, self._MANY)
@@ -648,19 +678,25 @@ class Member:
         with self._lock:
             return self._line("journal_line", _number(index, 64))
 
-    def _received(self, name: str, *given: Any) -> Output:
-        received = jolunza_received()
-        output = self._done(name, *given, byref(received))
-        return output._replace(is_repeat=received.is_repeat)
-
-    def _done(self, name: str, *given: Any) -> Output:
+    def _done(self, call: Call) -> Output:
         """Makes a call, and copies what it did before another thread makes the next one."""
         with self._lock:
-            # without a history only those of this call are counted; a help leaves those of the call before
-            before = self._count() if self.keeps_history or name in ("help", "help_among") else jolunza_counts()
-            after = self._kept(before, name, *given)
-            events = self._all_events(before.events, after.events)
-            return Output(self._frames(after.frames), events, False, after.entries > before.entries)
+            before, given, received = self._before(call)
+            after = self._kept(before, call.name, *given)
+            return self._output(before, after, received)
+
+    def _before(self, call: Call) -> tuple[jolunza_counts, tuple[Any, ...], jolunza_received]:
+        """The counts before a call, and its arguments."""
+        given, received = call.given, jolunza_received()
+        if call.name in ("receive", "receive_loaded"):
+            given += (byref(received),)
+        # without a history only those of this call are counted; a help leaves those of the call before
+        counts_on = self.keeps_history or call.name in ("help", "help_among")
+        return self._count() if counts_on else jolunza_counts(), given, received
+
+    def _output(self, before: jolunza_counts, after: jolunza_counts, received: jolunza_received) -> Output:
+        events = self._all_events(before.events, after.events)
+        return Output(self._frames(after.frames), events, received.is_repeat, after.entries > before.entries)
 
     def _kept(self, before: jolunza_counts, name: str, *given: Any) -> jolunza_counts:
         """Makes a call, and what comes before anything of it is sent; counts then."""
@@ -745,6 +781,7 @@ class Member:
 class Journal(Member):
     """A member with a file of what it did, by which it comes back after its process was killed. A call writes its lines and waits until
     they are on the disk; only then it answers. The file has all that was sent and shown. Before the first call `events` has all of it.
+    `turn` makes several calls and waits once.
 
     The file is cut after its whole lines; one that is not there, or has nothing but a part of the head line, is begun. A file that is no
     journal, or that of another member, stays as it is: a `Refusal`, or `OtherJournal`. While the journal is open, another one that opens
@@ -806,22 +843,52 @@ class Journal(Member):
         finally:
             os.close(folder)
 
+    def turn(self, calls: Iterable[Call]) -> list[Union[Output, Refusal]]:
+        """Makes these calls in their order, and waits once until the lines of all of them are on the disk; only then it returns what each
+        one did. In place of a call that is refused the list has its `Refusal`, and the calls after it are made all the same."""
+        outputs: list[Union[Output, Refusal]] = []
+        all_calls = list(calls)  # a fault of the caller's comes before anything is done
+        with self._lock, self._unknown_until_written() as lines:
+            for call in all_calls:
+                before, given, received = self._before(call)
+                code, after = self._made(lines, before, call.name, *given)
+                outputs.append(Refusal(Code(code), call.name) if code else self._output(before, after, received))
+        return outputs
+
     def _kept(self, before: jolunza_counts, name: str, *given: Any) -> jolunza_counts:
+        with self._unknown_until_written() as lines:
+            code, after = self._made(lines, before, name, *given)
+        if code:
+            raise Refusal(Code(code), name)
+        return after
+
+    def _made(self, lines: list[bytes], before: jolunza_counts, name: str, *given: Any) -> tuple[Any, jolunza_counts]:
+        """Makes a call, and adds its lines, which the next call may take away."""
+        code = self._code(name, *given)
+        after = before if code else self._count()
+        try:
+            lines += [self._line("journal_line", index) for index in range(before.entries, after.entries)]
+        except Refusal as fault:
+            raise self._not_written(fault) from fault
+        return code, after
+
+    @contextlib.contextmanager
+    def _unknown_until_written(self) -> Iterator[list[bytes]]:
         """From before a call until its lines are on the disk it is unknown whether they are: an exception can come at any time."""
         if self._fault:
             raise self._fault.with_traceback(None)
         self._fault = JournalFault(self._path, "a call was cut short, and its lines may be missing: close it, and open it anew")
-        code = self._code(name, *given)
-        after = before if code else self._count()
+        lines: list[bytes] = []
+        yield lines
         try:
-            self._write(b"".join(self._line("journal_line", index) for index in range(before.entries, after.entries)))
-        except (OSError, Refusal) as fault:
-            self._fault = JournalFault(self._path, f"the lines of a call are not written: {fault}")
-            raise self._fault from fault
+            self._write(b"".join(lines))
+        except OSError as fault:
+            raise self._not_written(fault) from fault
         self._fault = None
-        if code:
-            raise Refusal(Code(code), name)
-        return after
+
+    def _not_written(self, fault: Exception) -> JournalFault:
+        self._fault = JournalFault(self._path, f"the lines of a call are not written: {fault}")
+        return self._fault
 
     def _write(self, text: bytes) -> None:
         rest = memoryview(text)

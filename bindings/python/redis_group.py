@@ -35,7 +35,7 @@ def channel(to: Optional[int]) -> str:
 
 
 class Link:
-    """Frames over the channels of the group. Where a connection breaks another is made, and what was on its way is lost."""
+    """Frames over the channels of the group. If a connection breaks, another is made, and the frames on their way are lost."""
 
     def __init__(self, port: int, me: int) -> None:
         self.arrived: queue.Queue[bytes] = queue.Queue()
@@ -60,7 +60,7 @@ class Link:
 
 
 class Speaker:
-    """A member that says its lines: every second one, where there is a line of another, answers the last of these."""
+    """A member that casts its lines: every second one answers the last line of another, if there is one."""
 
     def __init__(self, port: int, me: int, path: str) -> None:
         self._me, self._last = me, ""
@@ -69,7 +69,7 @@ class Speaker:
         self._link = Link(port, me)
 
     def call(self, call: Callable[..., Output], *given: bytes) -> None:
-        """A frame at fault is dropped. A line for which the window is full is said later: the caller tries again."""
+        """A frame at fault is dropped. A line for which the window is full is cast later: the caller tries again."""
         try:
             output = call(*given)
         except Refusal as refusal:
@@ -144,7 +144,7 @@ def wait_for(screens: list[Screen], is_there: Callable[[], bool]) -> None:
 
 
 def orphans(lines: list[str]) -> Iterator[str]:
-    """The lines that stand before what they answer, or without it."""
+    """The lines that come before the line that they answer, or without it."""
     seen = set()
     for line in lines:
         answered = re.match(r"\S+ re (\S+) ", line)
@@ -154,7 +154,7 @@ def orphans(lines: list[str]) -> Iterator[str]:
 
 
 def faults(screens: list[list[str]], before: list[str]) -> Iterator[str]:
-    """What is wrong with the screens, and with the one of the member that came back, which had shown the lines `before`."""
+    """The faults of the screens, and of the one of the member that came back, which had shown the lines `before`."""
     said = {f"{me}.{number}" for me in range(SIZE) for number in range(1, LINES_OF_EACH + 1)}
     for me, lines in enumerate(screens):
         if sorted(line.split(" ")[0] for line in lines) != sorted(said) or set(lines) != set(screens[0]):
@@ -172,7 +172,7 @@ def drop_connections(port: int) -> None:
 
 
 def run_group(port: int, folder: str, screens: list[Screen]) -> str:
-    """Says what was seen."""
+    """Returns a line on the screens."""
     screens += [Screen(port, me, folder, f"{me}.screen") for me in range(SIZE)]
     wait_for(screens, lambda: len(screens[KILLED].lines()) >= ALL_LINES // 3)
     screens[KILLED].end()

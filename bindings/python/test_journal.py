@@ -12,10 +12,10 @@ import tempfile
 import threading
 import time
 import unittest
-from typing import Any, Callable
+from typing import Any, Callable, Iterator
 from unittest import mock
 
-from jolunza import Code, JolunzaError, Journal, JournalFault, LockedJournal, Member, OtherJournal, Output, Refusal, Settings
+from jolunza import Call, Code, JolunzaError, Journal, JournalFault, LockedJournal, Member, OtherJournal, Output, Refusal, Settings
 from test_jolunza import HI, Case, Group, helps, state, too_early
 
 HEAD = b"cbcast 1 group 7 size 3 window 8 member 1\n"
@@ -264,6 +264,50 @@ class Cut(Exception):
     """An exception of a signal handler."""
 
 
+class Turns(InAFile):
+    CALLS = [Call.receive(b"?"), Call.cast(b"a"), Call.tick(), Call.cast_burst([b"b", b"c"]), Call.help(0), Call.help(9), Call.tick()]
+
+    def test_a_turn_does_what_its_calls_do_one_after_another(self) -> None:
+        for history_max in (100, 0):
+            with Journal(self.path, OWN, history_max) as journal:
+                calls: list[tuple[Any, ...]] = [(journal.cast, b"a"), (journal.tick,), (journal.cast_burst, [b"b", b"c"]), (journal.help, 0)]
+                outputs = [call(*given) for call, *given in [*calls, (journal.tick,)]]
+                events = list(journal.events())
+            one_by_one = self.has()
+            os.remove(self.path)
+            with Journal(self.path, OWN, history_max) as journal:
+                with mock.patch.object(os, "fsync", wraps=os.fsync) as fsync:
+                    found = journal.turn(iter(self.CALLS))
+                self.assertEqual(fsync.call_count, 1)
+                self.assertEqual(list(journal.events()), events)
+            refused = [(place, it.code) for place, it in enumerate(found) if isinstance(it, Refusal)]
+            self.assertEqual(refused, [(0, Code.MALFORMED), (5, Code.BAD_MEMBER)])
+            self.assertEqual(found[1:5] + found[6:], outputs)
+            self.assertEqual(self.has(), one_by_one)
+            os.remove(self.path)
+
+    def test_what_is_not_on_the_disk_is_not_returned(self) -> None:
+        journal = Journal(self.path, OWN)
+        with mock.patch.object(os, "fsync", side_effect=OSError(28, "No space left on device")):
+            self.assertEqual([type(it) for it in journal.turn([Call.help(0), Call.receive(b"?")])], [Output, Refusal])
+            with self.assertRaisesRegex(JournalFault, "not written: .*No space left"):
+                journal.turn([Call.cast(b"a"), Call.help(0)])
+        for calls in ([], [Call.tick()]):
+            with self.assertRaisesRegex(JournalFault, "not written: .*No space left"):
+                journal.turn(calls)
+        journal.close()
+
+    def test_a_fault_of_the_caller_changes_nothing(self) -> None:
+        def calls() -> Iterator[Call]:
+            yield Call.cast(b"a")
+            raise KeyError
+
+        with Journal(self.path, OWN) as journal:
+            with self.assertRaises(KeyError):
+                journal.turn(calls())
+            self.assertEqual((journal.time(), self.has()), ((0, 0, 0), HEAD))
+
+
 class CutShort(InAFile):
     """An exception comes from outside in the middle of a call. Either the file has all that the member did, or each later call says that it
     may not."""
@@ -289,8 +333,9 @@ class CutShort(InAFile):
         os.remove(self.path)
         return found
 
-    def cut(self, history_max: int, place: int, is_done: bool, raised: Exception) -> str:
-        """A cast that is cut at a place: the calls of the library and of the system are counted. The one that is cut is done or not."""
+    def cut(self, history_max: int, place: int, is_done: bool, raised: Exception, in_turns: bool) -> str:
+        """A cast, or a turn of two, that is cut at a place: the calls of the library and of the system are counted. The one that is cut is
+        done or not."""
         journal = Journal(self.path, self.SETTINGS, history_max)
         answered, left = [journal.cast(b"a")], [place]
 
@@ -312,15 +357,18 @@ class CutShort(InAFile):
         file.write = cutting(journal._file.write)
         with mock.patch.object(journal, "_library", library), mock.patch.object(journal, "_file", file):
             with mock.patch.object(os, "fsync", cutting(os.fsync)), contextlib.suppress(Cut, JolunzaError, TimeoutError):
-                answered.append(journal.cast(b"a"))
+                answered += journal.turn([Call.cast(b"a")] * 2) if in_turns else [journal.cast(b"a")]  # type: ignore[arg-type]
         return "not cut" if left[0] > 0 else self.look(journal, answered)
 
     def test_at_each_place(self) -> None:
         """Handlers also raise what the member raises, or the system."""
         for raised in (Cut(), Refusal(Code.WINDOW_FULL, "cast"), TimeoutError()):
             for history_max, is_done in ((100_000, True), (0, True), (0, False)):
-                found = [self.cut(history_max, place, is_done, raised) for place in range(1, 10)]
+                found = [self.cut(history_max, place, is_done, raised, False) for place in range(1, 10)]
                 self.assertEqual(set(found), {"told", "whole", "not cut"})
+                os.remove(self.path)
+                found = [self.cut(history_max, place, is_done, raised, True) for place in range(1, 16)]
+                self.assertEqual(set(found), {"told", "not cut"}, "of a turn nothing is returned before all of it is on the disk")
                 os.remove(self.path)
 
     def test_by_the_handler_of_a_signal(self) -> None:

@@ -1,9 +1,9 @@
-//! What a member did, entry by entry.
+//! The history of a member, entry by entry.
 
 use crate::refusal::{answered, Refusal};
 use crate::{sys, Name, LONGEST_FRAME};
 
-/// What a member did: a call that changed it. The same calls make the same member again.
+/// A call that changed the member. The same calls make the same member again.
 #[derive(Clone, Copy, Debug, PartialEq, Eq)]
 pub enum Entry<'a> {
     Cast {
@@ -20,7 +20,7 @@ pub enum Entry<'a> {
     },
 }
 
-/// What is copied goes here.
+/// The place for copied bytes.
 pub(crate) struct EntryBuffer {
     frame: Vec<u8>,
     names: Vec<sys::jolunza_name>,

@@ -44,7 +44,34 @@ impl<'a> Iterator for Events<'a> {
 
 impl ExactSizeIterator for Events<'_> {}
 
-/// What is copied goes here. It grows to what the longest list so far needed, and stays.
+/// The events of several calls, in their order.
+#[derive(Debug)]
+pub(crate) struct EventList {
+    heads: Vec<sys::jolunza_event_head>,
+    payloads: Vec<u8>,
+    times: Vec<u32>,
+    size: usize,
+}
+
+impl EventList {
+    /// A list for a group of this size.
+    pub fn new(size: usize) -> EventList {
+        EventList { heads: Vec::new(), payloads: Vec::new(), times: Vec::new(), size }
+    }
+
+    pub fn add(&mut self, events: Events<'_>) {
+        let length = events.heads.clone().map(|head| head.length).sum();
+        self.payloads.extend_from_slice(&events.payloads[..length]);
+        self.times.extend_from_slice(&events.times[..events.heads.len() * self.size]);
+        self.heads.extend(events.heads);
+    }
+
+    pub fn all(&self) -> Events<'_> {
+        Events { heads: self.heads.iter(), payloads: &self.payloads, times: &self.times, size: self.size }
+    }
+}
+
+/// The place for copied events. It grows to the need of the longest list so far, and stays.
 pub(crate) struct EventBuffer {
     heads: Vec<sys::jolunza_event_head>,
     payloads: Vec<u8>,
@@ -58,7 +85,7 @@ impl EventBuffer {
         EventBuffer { times: vec![0; heads.len() * size], heads, payloads: vec![0; 2 * LONGEST_PAYLOAD], size }
     }
 
-    /// Copies the events from `first` on, at most so many. The handle is open, and no other call runs on it.
+    /// Copies the events from `first` on, at most this number. The handle is open, and no other call runs on it.
     #[inline]
     pub unsafe fn fill(&mut self, handle: *mut sys::jolunza_handle, first: usize, most: usize) -> Events<'_> {
         let mut events = if most == 0 { 0 } else { self.copy(handle, first, 0, most, 0) };
@@ -68,7 +95,7 @@ impl EventBuffer {
         Events { heads: self.heads[..events].iter(), payloads: &self.payloads, times: &self.times, size: self.size }
     }
 
-    /// Copies on until there are as many as are wanted, or no more.
+    /// Copies more until the wanted number is there, or no more events are.
     #[cold]
     unsafe fn copy_rest(
         &mut self,
@@ -90,7 +117,7 @@ impl EventBuffer {
         }
     }
 
-    /// Copies those that fit behind what is there, and answers how many.
+    /// Copies those that fit after the copied ones, and returns how many.
     #[inline]
     unsafe fn copy(
         &mut self,

@@ -54,6 +54,25 @@ pub fn sender(bytes: &[u8]) -> Result<Sender, Refusal> {
     Ok(Sender { group, member })
 }
 
+/// The frames of several calls, in their order.
+#[derive(Debug, Default)]
+pub(crate) struct FrameList {
+    heads: Vec<sys::jolunza_frame_head>,
+    bytes: Vec<u8>,
+}
+
+impl FrameList {
+    pub fn add(&mut self, frames: Frames<'_>) {
+        let length = frames.heads.clone().map(|head| head.length).sum();
+        self.bytes.extend_from_slice(&frames.bytes[..length]);
+        self.heads.extend(frames.heads);
+    }
+
+    pub fn all(&self) -> Frames<'_> {
+        Frames { heads: self.heads.iter(), bytes: &self.bytes }
+    }
+}
+
 /// The frames of a call are copied here. It grows to what the longest answer until now needed, and stays.
 pub(crate) struct FrameBuffer {
     heads: Vec<sys::jolunza_frame_head>,
@@ -94,7 +113,7 @@ impl FrameBuffer {
         frames + self.copy(handle, frames, used)
     }
 
-    /// Copies those that fit behind what is there, and answers how many.
+    /// Copies those that fit after the copied ones, and returns how many.
     #[inline]
     unsafe fn copy(&mut self, handle: *mut sys::jolunza_handle, frames: usize, used: usize) -> usize {
         let (heads, bytes) = (&mut self.heads[frames..], &mut self.bytes[used..]);

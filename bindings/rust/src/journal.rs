@@ -1,6 +1,6 @@
 //! A member's journal in a file.
 
-use crate::{Events, Member, Output, Refusal, ResumeFault, Settings};
+use crate::{Call, Events, Member, Output, Refusal, ResumeFault, Settings, Turn};
 use std::error::Error;
 use std::fmt;
 use std::fs::{File, OpenOptions, TryLockError};
@@ -9,14 +9,14 @@ use std::ops::{Range, RangeBounds};
 use std::path::{Path, PathBuf};
 use std::sync::Arc;
 
-/// A member, and in a file what it did, so that it comes back after its process was killed.
+/// A member with a file that records its calls, so that it comes back after its process was killed.
 ///
-/// A call writes its entry and waits until it is on the disk; only then it answers what is to be sent and shown. So nothing
-/// is known to others that the file does not have. A process that opens the file while another one has it is answered `InUse`: two
-/// that come back by one journal are one member twice.
+/// A call writes its entry and waits until it is on the disk; only then it returns the frames to send and the events to show. Others
+/// therefore know nothing that the file does not have. If another process has the file open, `open` returns `InUse`: two processes that
+/// come back from one journal are one member twice.
 ///
-/// A call answers a result in a result. The outer one is the file's: after a [`JournalFault`] end, and come back. The inner one is the
-/// member's: a [`Refusal`] has changed nothing.
+/// A call returns a result in a result. The outer one is the file's: after a [`JournalFault`] end, and come back. The inner one is the
+/// member's: a [`Refusal`] has changed nothing. [`Journal::turn`] makes several calls, and waits for the disk once.
 ///
 /// ```
 /// # use jolunza::{Journal, Settings};
@@ -170,35 +170,92 @@ impl Journal {
         self.kept(|member| member.help_among(other, members))
     }
 
+    /// Makes these calls in their order, and waits once until the entries of all of them are on the disk; only then it answers what they
+    /// did. A call that is refused is passed over: [`Turn::refused`] names it.
+    ///
+    /// ```
+    /// # use jolunza::{Call, Journal, Settings};
+    /// # let path = std::env::temp_dir().join(format!("jolunza-turn-page-{}", std::process::id()));
+    /// # let (send, show) = (|_: jolunza::Frame| (), |_: jolunza::Event| ());
+    /// # let mut anna = Journal::open(&path, Settings { group: 7, size: 3, window: 4, me: 0 })?;
+    /// # let received: Vec<Vec<u8>> = vec![b"?".to_vec()];
+    /// let mut calls: Vec<Call> = received.iter().map(|datagram| Call::Receive(datagram)).collect();
+    /// calls.push(Call::Cast(b"when?"));
+    /// calls.push(Call::Tick);
+    /// let turn = anna.turn(&calls)?; // one wait for the disk
+    /// turn.frames().for_each(send);
+    /// turn.events().for_each(show);
+    /// # assert_eq!((turn.frames().len(), turn.events().len(), turn.refused()[0].0), (2, 1, 0));
+    /// # std::fs::remove_file(&path)?;
+    /// # Ok::<(), Box<dyn std::error::Error>>(())
+    /// ```
+    pub fn turn(&mut self, calls: &[Call<'_>]) -> Result<Turn, JournalFault> {
+        self.faultless()?;
+        let mut turn = Turn::new(self.member.settings().size as usize);
+        let mut lines = String::new();
+        for (place, call) in calls.iter().enumerate() {
+            let done = match call.of(&mut self.member) {
+                Ok(output) => output.done(),
+                Err(refusal) => {
+                    turn.refuse(place, refusal);
+                    continue;
+                }
+            };
+            lines += &self.lines(done.entries)?;
+            turn.add(Output::of(&mut self.member, done));
+        }
+        self.write(&lines)?;
+        Ok(turn)
+    }
+
     /// Makes a call, and writes its entries before it answers. From the first fault on it makes none, and answers that fault.
     fn kept(
         &mut self,
         call: impl FnOnce(&mut Member) -> Result<Output<'_>, Refusal>,
     ) -> Result<Result<Output<'_>, Refusal>, JournalFault> {
-        if let Some(fault) = &self.fault {
-            return Err(fault.clone());
-        }
+        self.faultless()?;
         let done = match call(&mut self.member) {
             Ok(output) => output.done(),
             Err(refusal) => return Ok(Err(refusal)),
         };
-        if let Err(fault) = self.write(done.entries) {
-            self.fault = Some(fault.clone());
-            return Err(fault);
-        }
+        let lines = self.lines(done.entries)?;
+        self.write(&lines)?;
         Ok(Ok(Output::of(&mut self.member, done)))
     }
 
-    /// Writes the lines of the last entries, which are on the disk when this is done.
-    fn write(&mut self, count: usize) -> Result<(), JournalFault> {
+    fn faultless(&self) -> Result<(), JournalFault> {
+        match &self.fault {
+            Some(fault) => Err(fault.clone()),
+            None => Ok(()),
+        }
+    }
+
+    /// The lines of the last call's entries, of which there are that many: the next call may take them away.
+    fn lines(&mut self, count: usize) -> Result<String, JournalFault> {
         if count == 0 {
-            return Ok(());
+            return Ok(String::new());
         }
         let entries = self.member.counts().entries;
         let lines = (entries - count..entries).map(|index| self.member.journal_line(index));
-        let lines = lines.collect::<Result<String, Refusal>>().map_err(refused(&self.path))?;
+        let lines = lines.collect::<Result<String, Refusal>>().map_err(refused(&self.path));
+        self.keep_fault(lines)
+    }
+
+    /// Writes lines, which are on the disk when this is done.
+    fn write(&mut self, lines: &str) -> Result<(), JournalFault> {
+        if lines.is_empty() {
+            return Ok(());
+        }
         let written = self.file.write_all(lines.as_bytes()).and_then(|()| self.file.sync_data());
-        written.map_err(in_file(&self.path))
+        let written = written.map_err(in_file(&self.path));
+        self.keep_fault(written)
+    }
+
+    fn keep_fault<T>(&mut self, done: Result<T, JournalFault>) -> Result<T, JournalFault> {
+        if let Err(fault) = &done {
+            self.fault = Some(fault.clone());
+        }
+        done
     }
 }
 
@@ -313,6 +370,20 @@ mod tests {
                 assert_eq!(kind_of(journal.help(1)), Some(io::ErrorKind::StorageFull));
             }
             assert_eq!(journal.member().time(), [1, 0, 0], "no more calls were made");
+        }
+    }
+
+    /// The first call's entry is written before the second one's, and neither is answered where the file has no room or is not synced.
+    #[test]
+    fn nothing_of_a_turn_is_answered_that_is_not_on_the_disk() {
+        for (device, kind) in [("/dev/full", io::ErrorKind::StorageFull), ("/dev/null", io::ErrorKind::InvalidInput)] {
+            for history_max in [100, 0] {
+                let mut journal = into_device(device, history_max);
+                assert_eq!(kind_of(journal.turn(&[Call::Help(1), Call::Receive(b"?")])), None, "they add no entry");
+                assert_eq!(kind_of(journal.turn(&[Call::Cast(b"a"), Call::Help(1)])), Some(kind));
+                assert_eq!(kind_of(journal.turn(&[])), Some(kind));
+                assert_eq!(kind_of(journal.tick()), Some(kind));
+            }
         }
     }
 

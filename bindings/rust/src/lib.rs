@@ -62,9 +62,9 @@
 //! # Ok::<(), Refusal>(())
 //! ```
 //!
-//! A [`Journal`] is a member with a file of what it did, which brings it back after its process was killed.
+//! A [`Journal`] is a member with a file that records its calls and brings it back after its process was killed.
 //!
-//! A member goes to another thread, and no two threads use one at a time:
+//! You can move a member to another thread, and only one thread at a time uses it:
 //!
 //! ```
 //! fn goes<T: Send>() {}
@@ -76,7 +76,7 @@
 //! is_shared::<jolunza::Member>();
 //! ```
 //!
-//! What a call answers is dealt with before the next call, and not left out:
+//! The output of a call is used before the next call, and is never ignored:
 //!
 //! ```compile_fail,E0499
 //! # use jolunza::{Member, Settings};
@@ -103,6 +103,7 @@ mod output;
 mod refusal;
 mod resuming;
 pub mod sys;
+mod turn;
 
 pub use entries::Entry;
 pub use events::{Event, Events};
@@ -112,6 +113,7 @@ pub use member::{Awaited, Counts, Delayed, Member, Name, Settings};
 pub use output::Output;
 pub use refusal::Refusal;
 pub use resuming::{ResumeFault, Resumed};
+pub use turn::{Call, Turn};
 
 /// The most bytes of a payload, and of all payloads of a burst.
 pub const LONGEST_PAYLOAD: usize = sys::JOLUNZA_LONGEST_PAYLOAD;

@@ -63,10 +63,10 @@ pub struct Awaited {
 
 /// One member of a group.
 ///
-/// Its calls are `cast`, `cast_burst`, `receive`, `receive_loaded`, `receive_parts`, `tick`, `help` and `help_among`. Each answers an [`Output`]: send its
-/// frames and show its events before the next call. All else only reads.
+/// Its calls are `cast`, `cast_burst`, `receive`, `receive_loaded`, `receive_parts`, `tick`, `help` and `help_among`. Each returns an [`Output`]: send its
+/// frames and show its events before the next call. All other calls only read.
 ///
-/// Of one group each member number is opened once in the world. The others ignore a member that begins anew under an old
+/// Each member number of a group is opened once in the world. The others ignore a member that begins anew under an old
 /// number: to come back, keep a [`Journal`](crate::Journal).
 pub struct Member {
     /// Open from `open` to `drop`, which all `unsafe` here rests on, as on this: pointers come from references and
@@ -139,7 +139,7 @@ impl Member {
         Ok(Resumed::of(member, entries, read))
     }
 
-    /// What is known of a member whose handle was just opened.
+    /// A member whose handle was just opened.
     fn over(handle: sys::jolunza_handle, settings: Settings, keeps_history: bool) -> Member {
         Member {
             handle: UnsafeCell::new(handle),
@@ -198,8 +198,8 @@ impl Member {
     }
 
     /// For many frames at once: copies bytes in, in place of those that were loaded before, and receives none of them.
-    /// They stay over every other call. What the member keeps of received frames shares this memory, which is given
-    /// back once no part of it is kept and other bytes are loaded (`&[]` will do).
+    /// They stay over every other call. The received frames that the member keeps share this memory, which is freed
+    /// once no part of it is kept and other bytes are loaded (`&[]` will do).
     pub fn load(&mut self, bytes: &[u8]) -> Result<(), Refusal> {
         answered(unsafe { sys::jolunza_load(self.handle.get(), bytes.as_ptr(), bytes.len()) })
     }
@@ -231,11 +231,11 @@ impl Member {
     }
 
     /// Takes parts of the loaded bytes in one call, one after another as `receive_loaded` takes one: the first part from
-    /// `first` on, each other from the end of the one before it on, and `lengths` says how long each is. Answers how many
-    /// were taken, and what they did. One at least is, else the refusal is that of the first part, and nothing has changed.
+    /// `first` on, each other from the end of the one before it on, with these `lengths`. Returns how many were taken, and
+    /// their output. At least one is taken; else the refusal is that of the first part, and nothing has changed.
     ///
-    /// A part that leaves frames to be sent is the last that is taken, so the frames are its own. Else fewer than all are
-    /// taken where the next part is refused: call again from that part on, and the refusal tells why. Events are those of
+    /// A part with frames to be sent is the last that is taken, so the frames are its own. Fewer than all are also taken
+    /// if the next part is refused: call again from that part on, and the refusal is the reason. The events are those of
     /// all parts of the call.
     ///
     /// ```
@@ -378,7 +378,7 @@ impl Member {
         })
     }
 
-    /// A line that a call copies as far as it fits, and whose length it tells.
+    /// A line that a call copies as far as it fits, with its length.
     fn line(&self, copy: impl Fn(*mut u8, usize, &mut usize) -> u32) -> Result<String, Refusal> {
         let (mut text, mut length) = (vec![0; LONG_LINE], 0);
         answered(copy(text.as_mut_ptr(), text.len(), &mut length))?;
@@ -398,7 +398,7 @@ impl Member {
         Counts { events, entries }
     }
 
-    /// What stays of what is counted over the next call: without a history nothing.
+    /// The counts that the next call keeps: without a history none.
     fn kept_counts(&self) -> Counts {
         if self.keeps_history {
             self.counts()
@@ -481,7 +481,7 @@ impl Member {
 /// The line of an entry with the longest frame, and with some names, fits.
 const LONG_LINE: usize = 3_072;
 
-/// At most as many numbers as the window are missing, and a number lies between two ranges.
+/// At most a window of numbers is missing, and a number lies between two ranges.
 const MOST_RANGES: usize = 128;
 
 impl Drop for Member {
@@ -505,7 +505,7 @@ fn first_of(indexes: &impl RangeBounds<usize>) -> usize {
     }
 }
 
-/// The index behind the last one.
+/// The index after the last one.
 fn end_of(indexes: &impl RangeBounds<usize>) -> usize {
     match indexes.end_bound() {
         Bound::Included(last) => last.saturating_add(1),

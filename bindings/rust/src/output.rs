@@ -1,10 +1,10 @@
-//! What a call did.
+//! The effect of a call.
 
 use crate::{Events, Frames, Member};
 use std::fmt;
 
-/// What a call did: the frames that are to be sent, and the events that it made. It borrows the member, so the next call comes after
-/// it was dealt with.
+/// The effect of a call: the frames that are to be sent, and the events that it made. It borrows the member, so use it before the next
+/// call.
 ///
 /// ```
 /// # use jolunza::{Member, Settings};
@@ -26,7 +26,7 @@ pub struct Output<'a> {
     done: Done,
 }
 
-/// What is known of a call that was done.
+/// A call that was done.
 #[derive(Clone, Copy, Debug)]
 pub(crate) struct Done {
     pub left: Left,
@@ -38,7 +38,7 @@ pub(crate) struct Done {
     pub entries: usize,
 }
 
-/// The frames that a call left: none, the one of a cast or a burst, or any number.
+/// The frames of a call: none, the one of a cast or a burst, or any number.
 #[derive(Clone, Copy, Debug)]
 pub(crate) enum Left {
     NoFrame,
@@ -57,19 +57,19 @@ impl<'a> Output<'a> {
         self.done
     }
 
-    /// The frames that are to be sent, in this order, each whole and as it is. The same ones each time.
+    /// The frames that are to be sent, in this order, each whole and unchanged. The same ones each time.
     #[inline]
     pub fn frames(&mut self) -> Frames<'_> {
         self.member.frames_of(self.done)
     }
 
-    /// What the call cast or delivered, in this order. The same events each time.
+    /// The messages that the call cast or delivered, in this order. The same events each time.
     #[inline]
     pub fn events(&mut self) -> Events<'_> {
         self.member.events_of(self.done)
     }
 
-    /// Of a frame that was received: the member had this cast already. Then nothing has changed, and there is nothing to send.
+    /// The member already had this cast, after a received frame. Nothing has changed, and there is nothing to send.
     pub fn is_repeat(&self) -> bool {
         self.done.is_repeat
     }

@@ -24,12 +24,12 @@ pub enum Refusal {
     /// `cast`, `cast_burst`: wait for the others' statuses, keep the payloads, try again. A burst wants room for all its
     /// messages; one of more than the window never has it.
     WindowFull,
-    /// `cast`, `cast_burst`, `receive`, `tick`: the history has as many entries as its limit. Begin a new group number. Never without
+    /// `cast`, `cast_burst`, `receive`, `tick`: the history has reached its limit. Begin a new group number. Never without
     /// a history.
     HistoryFull,
     /// `receive`: drop the frame.
     OtherGroup,
-    /// `receive`: it says of this member what it never did. Drop the frame.
+    /// `receive`: it claims of this member what it never did. Drop the frame.
     Impossible,
     /// `receive`: beyond the window. Drop the frame, it comes again.
     TooFar,
@@ -109,7 +109,7 @@ impl Refusal {
     }
 }
 
-/// What a call answered.
+/// The answer of a call.
 #[inline]
 pub(crate) fn answered(code: u32) -> Result<(), Refusal> {
     if code == sys::JOLUNZA_DONE {
@@ -119,7 +119,7 @@ pub(crate) fn answered(code: u32) -> Result<(), Refusal> {
     }
 }
 
-/// What a code of jolunza.h says, in the words of its `jolunza_text`. bindings/check_header.py compares the two.
+/// The meaning of a code of jolunza.h, in the words of its `jolunza_text`. bindings/check_header.py compares the two.
 pub(crate) fn text_of(code: u32) -> &'static str {
     match code {
         sys::JOLUNZA_DONE => "done",

@@ -1,4 +1,4 @@
-//! What a member that came back was, or why none came back.
+//! A member that came back, or why none did.
 
 use crate::refusal::text_of;
 use crate::{sys, Events, Member, Settings};
@@ -6,7 +6,7 @@ use std::error::Error;
 use std::fmt;
 use std::ops::RangeBounds;
 
-/// A member that came back by its journal: it is as it was after the last whole line.
+/// A member that came back from its journal: it is as it was after the last whole line.
 #[derive(Debug)]
 #[must_use = "the member made no call since it came back, and its events are to be shown"]
 pub struct Resumed {
@@ -30,12 +30,12 @@ impl Resumed {
         self.entries
     }
 
-    /// How many bytes its whole lines have. The file is to be cut behind them before anything is written.
+    /// How many bytes its whole lines have. Cut the file after them before you write to it.
     pub fn read(&self) -> usize {
         self.read
     }
 
-    /// What the member cast and delivered before, of these indexes, from 0: `events(..)` has all. A long list is read in pieces, as that
+    /// The earlier casts and deliveries with these indexes, from 0: `events(..)` has all. A long list is read in pieces, as that
     /// of [`Member::events`].
     pub fn events(&mut self, indexes: impl RangeBounds<usize>) -> Events<'_> {
         self.member.events(indexes)
@@ -47,14 +47,14 @@ impl Resumed {
     }
 }
 
-/// Why no member came back by a journal: the first of these that holds, or `NoMemory`. Lines are counted from 1, the head line.
+/// Why no member came back from a journal: the first of these that holds, or `NoMemory`. Lines are counted from 1, the head line.
 #[derive(Clone, Copy, Debug, PartialEq, Eq, Hash)]
 #[non_exhaustive]
 pub enum ResumeFault {
-    /// No line is whole. Where there is nothing but a beginning of what `journal_head` gives, or nothing at all, nothing was written
-    /// yet: open the member, and begin the journal. Else it is no journal: leave it.
+    /// No line is whole. If the bytes are only a beginning of the line of `journal_head`, or there are none, nothing was written yet:
+    /// open the member, and begin the journal. Any other bytes are no journal: don't change them.
     NoHead,
-    /// This line is whole, and is not what must stand there: no crash of a writer made it so.
+    /// This line is whole, and no writer writes it there: no crash of a writer made it so.
     BadLine { line: usize },
     /// The limit of the history is above 16,777,216.
     BadLimit,

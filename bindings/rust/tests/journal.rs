@@ -5,7 +5,7 @@ mod network;
 #[allow(dead_code)]
 mod text;
 
-use jolunza::{Events, Journal, JournalFault, Member, Output, Refusal, ResumeFault, Resumed, Settings};
+use jolunza::{Call as Deferred, Events, Journal, JournalFault, Member, Output, Refusal, ResumeFault, Resumed, Settings};
 use network::{Dice, Network};
 use std::env;
 use std::error::Error;
@@ -469,6 +469,33 @@ struct Host {
 fn send_and_show(mut output: Output<'_>, host: &mut Host) {
     host.shown.extend(output.events().map(|event| event.payload.to_vec()));
     host.sent.extend(sent(output));
+}
+
+#[test]
+fn a_turn_does_what_its_calls_do_one_after_another() {
+    let turn = [
+        Deferred::Receive(b"?"),
+        Deferred::Cast(b"a"),
+        Deferred::Tick,
+        Deferred::CastBurst(&[b"b", b"c"]),
+        Deferred::HelpAmong(0, &[2]),
+        Deferred::Help(9),
+        Deferred::Tick,
+    ];
+    for history_max in [HISTORY_MAX, 0] {
+        let (together, apart) = (Place::new("together"), Place::new("apart"));
+        let done = together.open_with(history_max).turn(&turn).unwrap();
+        let (mut journal, mut frames, mut events) = (apart.open_with(history_max), Vec::new(), Vec::new());
+        for call in [Call::Cast(b"a"), Call::Tick, Call::Burst(&[b"b", b"c"]), Call::Help(0), Call::Tick] {
+            let mut output = call.written(&mut journal).unwrap();
+            events.extend(events_text(output.events()));
+            frames.extend(sent(output));
+        }
+        assert_eq!(together.has(), apart.has());
+        assert_eq!(done.frames().map(|frame| (frame.to, frame.bytes.to_vec())).collect::<Vec<_>>(), frames);
+        assert_eq!((events_text(done.events()), frames.len()), (events, 4));
+        assert_eq!(done.refused(), [(0, open(1, 0).receive(b"?").unwrap_err()), (5, Refusal::BadMember)]);
+    }
 }
 
 #[test]

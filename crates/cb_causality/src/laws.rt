@@ -99,10 +99,10 @@ pub fn closed_parts_of_runs_are_runs()
 
 /// Groups that follow one another are one run of all persons who were ever in one of them, however many groups these are. The members of
 /// each next group have all that anybody has before it, newcomers as deliveries in the order of one who had it; what they cast and deliver
-/// in their group is a run and stands behind, with numbers that go on.
+/// in their group is a run and follows there, with numbers that go on.
 ///
-/// Every message of the next group happened after every message before. Two messages of the next group stand to each other as in that
-/// group, and two messages before it as they stood.
+/// Every message of the next group happened after every message before. Two messages of the next group are ordered as in that
+/// group, and two messages before it as they were.
 pub fn groups_follow_as_one_run()
     ensures run { FollowingGroupsAreOneRun }
     ensures behind { EachGroupBehind ComesBehind }

@@ -13,7 +13,7 @@ ghost use Rattle.cb_member.specs.Singles.{KeepsSingles, times_in};
 ghost use Rattle.cb_member.specs.Taking.{WouldExpand, CanKeep, KeepsCast, IsReceiving, ExpandsNext, HasNoNextOf, Tells};
 ghost use Rattle.cb_member.specs.Passing.{IsInOrder, TakesAt, TakesBurst, TakesInOrder, message_at};
 
-use crate::singles::{Singles, Spares};
+use crate::singles::{Spares, keep_singles};
 use cb_delay::Message;
 use cb_diffs::Expander;
 use cb_frames::{Burst, Cast, Unit};
@@ -81,7 +81,7 @@ impl Reception {
     {
         let sender = unit.sender() as usize;
         spares.put_on(&mut self.spares[sender]);
-        Singles::of(unit).keep_in(&mut self.buffers[sender], delivered);
+        keep_singles(unit, &mut self.buffers[sender], delivered);
     }
 
     /// Whether the cast is its sender's next one, and none of the sender's waits behind it.

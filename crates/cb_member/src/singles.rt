@@ -18,7 +18,7 @@ use cb_times::{NoMemory, VectorTime};
 use std::alloc::Global;
 use std::vec::IntoIter;
 
-/// The singles of a unit, in the order of their numbers. They share its bytes, and take no memory.
+/// The singles of a burst, in the order of their numbers. They share its bytes, and take no memory.
 #[derive(Drop)]
 pub struct Singles {
     /// The first of those that are left, which alone may change a field.
@@ -57,25 +57,6 @@ pub fn only_burst(unit: Unit) -> Burst
 }
 
 impl Singles {
-    pub fn of(unit: Unit) -> Singles
-        ensures { left_in result ≡ singles_of (unit_fields unit) }
-    {
-        match unit {
-            Unit::One(cast) => Singles::of_cast(cast),
-            Unit::Many(burst) => Singles::of_burst(burst),
-        }
-    }
-
-    fn of_cast(cast: Cast) -> Singles
-        ensures { left_in result ≡ singles_of (cast_fields cast) }
-    {
-        let others = Vec::new(*cast.changes.allocator()).into_iter();
-        Singles {
-            next: Some(cast),
-            others,
-        }
-    }
-
     fn of_burst(burst: Burst) -> Singles
         ensures { left_in result ≡ singles_of (burst_fields burst) }
     {
@@ -113,8 +94,7 @@ impl Singles {
         Some(single)
     }
 
-    /// Keeps them in their sender's buffer. This many of the sender's messages are delivered.
-    pub fn keep_in(self, buffer: &mut Reorder, delivered: u32)
+    fn keep_in(self, buffer: &mut Reorder, delivered: u32)
         requires { CanKeepInTurn delivered (left_in self) buffer.old }
         ensures { AreKept buffer.old (left_in self) buffer.new }
     {
@@ -122,6 +102,19 @@ impl Singles {
         'singles: while let Some(single) = left.next() {
             let _kept = buffer.keep(delivered, Unit::One(single));
         }
+    }
+}
+
+/// Keeps the singles of a unit in their sender's buffer. That many of the sender's messages are delivered.
+pub fn keep_singles(unit: Unit, buffer: &mut Reorder, delivered: u32)
+    requires { CanKeepInTurn delivered (singles_of (unit_fields unit)) buffer.old }
+    ensures { AreKept buffer.old (singles_of (unit_fields unit)) buffer.new }
+{
+    match unit {
+        Unit::One(_) => {
+            let _kept = buffer.keep(delivered, unit);
+        }
+        Unit::Many(burst) => Singles::of_burst(burst).keep_in(buffer, delivered),
     }
 }
 

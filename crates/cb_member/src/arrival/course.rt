@@ -1,7 +1,7 @@
 //! The course of a received cast or burst: one of six ways, told before anything changes, with what is made for it.
 //!
-//! `LetsGo` would do for all of them. The others are for what comes most, and cost less. Of a cast that is delivered alone the way is
-//! compiled into one function. The other courses have functions of their own, whose variables it would have to set to zero.
+//! `LetsGo` would do for all of them. The others are for what comes most, and cost less. A cast that is delivered alone is compiled into
+//! one function. The other courses have functions of their own, since that one would set their variables to zero as well.
 
 ghost use Rattle.std.specs.Prelude.{◌≡◌, ◌≢◌, ◌<◌, ◌≤◌, ◌+◌, ◌↔◌, All, IfOk, IfSome, IsTrue, length};
 ghost use Rattle.std.specs.FinMap as map;

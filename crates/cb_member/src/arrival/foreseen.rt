@@ -11,7 +11,7 @@ ghost use Rattle.cb_member.specs.Taking.{CanFollow};
 
 use crate::arrival::course::Course;
 use crate::reception::{name_of, take_single};
-use crate::singles::Singles;
+use crate::singles::keep_singles;
 use crate::state::State;
 use cb_delay::{Event, Message};
 use cb_diffs::grow_by;
@@ -76,8 +76,8 @@ impl State {
     {
         let sender = unit.sender();
         let mut buffer = self.reception.buffers[sender as usize].copy()?;
-        let singles = Singles::of(unit.copy()?);
-        singles.keep_in(&mut buffer, self.delivery.time.get(sender));
+        let copy = unit.copy()?;
+        keep_singles(copy, &mut buffer, self.delivery.time.get(sender));
         let time = self.reception.expander.last_time(sender).copy()?;
         come_out(self.alloc, &mut buffer, time)
     }

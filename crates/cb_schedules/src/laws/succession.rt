@@ -16,7 +16,7 @@ ghost use Rattle.cb_schedules.specs.SuccessionTraps.{no_compare, shows_all, take
 ///
 /// The cut is one vector. The lists shown to those who began, with the part of each other list that is in the cut, are a run of the
 /// causal machine: so each was shown these messages in an order that causality allows, and each once. In that run those who began by the plan have
-/// all that anybody has, as the members of a next group must whose run is put behind. No step takes back what was shown.
+/// all that anybody has, as the members of a next group must whose run continues there. No step takes back what was shown.
 ///
 /// It holds for every group, however payloads are read as plans, however many places are kept for ENDs, and after every list of steps,
 /// whatever is lost, repeated or overtaken and whoever is dead.
@@ -54,8 +54,8 @@ pub fn an_end_has_room()
     ensures { EachSuccession EndsHaveRoom }
 {}
 
-/// One member may be silent. If each member that a plan lists has cast its END and none of a greater number, each of these may begin
-/// behind W rounds without the silent one and W / 64 more, rounded up, in which no history is found full: whatever was lost before.
+/// If each member that a plan lists has cast its END and none of a greater number, each of these may begin after W rounds without one silent
+/// member and W / 64 more, rounded up, whatever was lost before. In these rounds no history may be found full.
 pub fn a_dead_member_is_not_needed_to_go_on()
     ensures { ADeadMemberIsNotNeeded }
 {}
@@ -66,8 +66,8 @@ pub fn nothing_else_is_waited_for()
     ensures { NothingElseIsWaitedFor }
 {}
 
-/// Once somebody has begun by an earlier plan, each other member that this plan lists may begin by it too, behind as many rounds without
-/// a silent member, if each later plan that it ended by lists the one who began.
+/// Once somebody has begun by an earlier plan, each other member that this plan lists may begin by it too after the same rounds without a
+/// silent member, if each later plan that it ended by lists the one who began.
 pub fn who_comes_late_comes_too()
     ensures { WhoComesLateMayBegin }
 {}
@@ -85,10 +85,9 @@ pub fn other_rules_are_wrong()
     ensures no_reserve { NoReserveLeavesNoRoom }
 {}
 
-/// With journals all of this outlives restarts. Members enter their calls, write, send and end at any moment, and come back with what is
-/// written. A begin is made once all entries of its member are written, and is written itself before anything else happens. Then all
-/// laws above hold of what there is, after every list of such steps. No step takes back what a caller was shown, if it is shown written
-/// events alone.
+/// All these laws but those of rounds and room hold of members with journals too, which end and come back. Members enter their calls,
+/// write, send and end at any moment, and come back with what is written. A begin is made once all entries of its member are written, and
+/// is written itself before anything else happens. No step takes back what a caller was shown, if it is shown written events alone.
 pub fn successions_outlive_restarts()
     ensures same { EachJournaledSuccession ExactlyTheCutIsShown }
     ensures alike { EachJournaledSuccession TheSameIsShown }
@@ -104,7 +103,7 @@ pub fn successions_outlive_restarts()
     ensures kept { WhatWasShownOutlivesRestarts }
 {}
 
-/// A member that hears nothing more of another one from some moment on, as one that is left out hears nothing behind the END, has cast at
+/// A member that hears nothing more of another one from some moment on, as one that is left out hears nothing after the END, has cast at
 /// most a window more than that one had delivered of it then, which the END's time counts.
 pub fn who_is_left_out_stays_within_a_window()
     ensures { WhoHearsNothingMoreStaysWithin }

@@ -32,7 +32,7 @@ pub const A_CAST_BEFORE_ITS_TURN_IS_KEPT: &[Script<'static>] = &[Script {
     ],
 }];
 
-/// Two casts in order wait, and what they tell of is missing. That comes in order, and lets both go.
+/// Two casts in order wait, and what they tell of is missing. The missing cast comes in order, and lets both go.
 pub const A_CAST_IN_ORDER_WAITS_FOR_WHAT_IT_FOLLOWS: &[Script<'static>] = &[Script {
     number: 7,
     size: 4,

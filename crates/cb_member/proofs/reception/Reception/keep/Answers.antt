@@ -5,9 +5,8 @@ use Rattle.std.specs.declared.vec.Vec.{Vec}
 use Rattle.std.specs.declared.alloc.Global.{Global}
 use Rattle.std.proofs.lemmas.List.{map-set}
 use Rattle.std.proofs.lemmas.Option.{slice_get_within}
-use Rattle.cb_frames.specs.Fields.{CastFields, unit_fields}
-use Rattle.cb_history.specs.BufferLaws.{AreKept}
-use Rattle.cb_member.specs.Singles.{CanKeepInTurn, times_in}
+use Rattle.cb_frames.specs.Fields.{unit_fields}
+use Rattle.cb_member.specs.Singles.{times_in}
 use Rattle.cb_member.proofs.Receiving.{can_keep_in_turn, kept_cast, one_value, vec_at, stack_at}
 use Rattle.cb_member.proofs.reception.Reception.keep.Goals as goal
 
@@ -34,15 +33,14 @@ index_mut-requires-2 c =
     let of = c.sender-sender.ensures in
     omega (arith, of, slice_get_within c.args.self.now.buffers.items (unit_fields c.args.unit).sender can.buffer can.at, c.args.self.now.buffers.ok.0)
 
-pub keep_in-requires : goal.keep_in-requires
-keep_in-requires c =
+pub keep_singles-requires : goal.keep_singles-requires
+keep_singles-requires c =
     let can = c.requires.can_keep in
     let buffers = c.args.self.now.buffers.items in
     let of = c.sender-sender.ensures in
     let there = slice_get_within buffers (unit_fields c.args.unit).sender can.buffer can.at in
     let at = ap (slice_get buffers) (sym of) ∙ vec_at buffers c.sender-sender.result c.index_mut-2.result.now (omega (arith, of, there)) c.index_mut-2.ensures.value in
-    subst (λ (singles : List CastFields). CanKeepInTurn c.args.delivered singles c.index_mut-2.result.now) (sym c.of.ensures)
-    (can_keep_in_turn c.args.delivered (unit_fields c.args.unit) c.args.self.now c.index_mut-2.result.now c.requires.numbered can at)
+    can_keep_in_turn c.args.delivered (unit_fields c.args.unit) c.args.self.now c.index_mut-2.result.now c.requires.numbered can at
 
 pub returns : goal.returns
 returns c seat facts are all spares_are =
@@ -53,11 +51,11 @@ returns c seat facts are all spares_are =
     let spares = c.args.self.now.spares.items in
     let there = slice_get_within buffers (unit_fields c.args.unit).sender can.buffer can.at in
     let there_too = slice_get_within spares (unit_fields c.args.unit).sender place.times place.at in
-    kept_cast (unit_fields c.args.unit) (times_in c.args.spares) c.index_mut-2.result.now c.keep_in.new.buffer c.index_mut.result.now.items c.args.self.now _
+    kept_cast (unit_fields c.args.unit) (times_in c.args.spares) c.index_mut-2.result.now c.keep_singles.new.buffer c.index_mut.result.now.items c.args.self.now _
     (record {
       at = ap (slice_get buffers) (sym of) ∙ vec_at buffers c.sender-sender.result c.index_mut-2.result.now (omega (arith, of, there)) c.index_mut-2.ensures.value;
-      kept = subst (λ (singles : List CastFields). AreKept c.index_mut-2.result.now singles c.keep_in.new.buffer) c.of.ensures c.keep_in.ensures;
-      buffers = ap (λ (i : ℕ). set buffers i c.keep_in.new.buffer) of;
+      kept = c.keep_singles.ensures;
+      buffers = ap (λ (i : ℕ). set buffers i c.keep_singles.new.buffer) of;
       expander = refl;
       at_stack = stack_at c.args.self.now (unit_fields c.args.unit).sender c.index_mut.result.now
           (ap (slice_get spares) (sym of) ∙ vec_at spares c.sender-sender.result c.index_mut.result.now (omega (arith, of, there_too)) c.index_mut.ensures.value);

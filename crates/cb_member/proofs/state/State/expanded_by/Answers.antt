@@ -8,7 +8,7 @@ use Rattle.cb_gaps.specs.Buffer.{Buffer}
 use Rattle.cb_diffs.specs.Expansion.{time_of}
 use Rattle.cb_history.specs.BufferLaws.{AreKept}
 use Rattle.cb_history.specs.Singles.{singles_of}
-use Rattle.cb_member.specs.Singles.{CanKeepInTurn, left_in}
+use Rattle.cb_member.specs.Singles.{CanKeepInTurn}
 use Rattle.cb_member.proofs.Courses.{expander_long}
 use Rattle.cb_member.proofs.Foreseeing.{are_expanded_by_it, takes_out_then}
 use Rattle.cb_member.proofs.Receiving.{can_keep_in_turn, vec_at}
@@ -24,8 +24,8 @@ index-requires c =
 pub get-requires : goal.get-requires
 get-requires c = rw c.sender-sender.ensures (sender_is_counted (unit_fields c.args.unit.now) c.args.self.now c.requires)
 
-pub keep_in-requires : goal.keep_in-requires
-keep_in-requires c =
+pub keep_singles-requires : goal.keep_singles-requires
+keep_singles-requires c =
     let cast = unit_fields c.args.unit.now in
     let can = c.requires.can_keep in
     let of = c.sender-sender.ensures in
@@ -34,8 +34,8 @@ keep_in-requires c =
     let at : slice_get buffers cast.sender ≡ Some c.index.result.now =
     ap (slice_get buffers) (sym of) ∙ vec_at buffers c.sender-sender.result c.index.result.now (omega (arith, of, there)) c.index.ensures in
     let delivered : c.get.result ≡ field c.args.self.now.delivery.time cast.sender = c.get.ensures.field ∙ ap (field c.args.self.now.delivery.time) of in
-    subst (λ (n : ℕ). CanKeepInTurn n (left_in c.of-singles.result) c.in_ok-buffer.buffer) (sym delivered)
-    (subst (λ (singles : List CastFields). CanKeepInTurn (field c.args.self.now.delivery.time cast.sender) singles c.in_ok-buffer.buffer) (sym (c.of-singles.ensures ∙ ap singles_of c.in_ok-copy.ensures))
+    subst (λ (n : ℕ). CanKeepInTurn n (singles_of (unit_fields c.in_ok-copy.copy)) c.in_ok-buffer.buffer) (sym delivered)
+    (subst (λ (singles : List CastFields). CanKeepInTurn (field c.args.self.now.delivery.time cast.sender) singles c.in_ok-buffer.buffer) (sym (ap singles_of c.in_ok-copy.ensures))
     (subst (CanKeepInTurn (field c.args.self.now.delivery.time cast.sender) (singles_of cast)) (sym c.in_ok-buffer.ensures)
     (can_keep_in_turn (field c.args.self.now.delivery.time cast.sender) cast c.args.self.now.reception c.index.result.now (has_numbers cast c.args.self.now c.requires) can at)))
 
@@ -54,9 +54,9 @@ come_out-requires c =
     let there = slice_get_within buffers cast.sender can.buffer can.at in
     let at : slice_get buffers cast.sender ≡ Some c.index.result.now =
     ap (slice_get buffers) (sym of) ∙ vec_at buffers c.sender-sender.result c.index.result.now (omega (arith, of, there)) c.index.ensures in
-    let kept = subst (λ (b : Buffer). AreKept b (singles_of cast) c.keep_in.new.buffer) c.in_ok-buffer.ensures
-    (subst (λ (singles : List CastFields). AreKept c.in_ok-buffer.buffer singles c.keep_in.new.buffer) (c.of-singles.ensures ∙ ap singles_of c.in_ok-copy.ensures) c.keep_in.ensures) in
-    takes_out_then cast c.args.self.now c.requires c.index.result.now c.keep_in.new.buffer at kept c.in_ok-time.time
+    let kept = subst (λ (b : Buffer). AreKept b (singles_of cast) c.keep_singles.new.buffer) c.in_ok-buffer.ensures
+    (subst (λ (singles : List CastFields). AreKept c.in_ok-buffer.buffer singles c.keep_singles.new.buffer) (ap singles_of c.in_ok-copy.ensures) c.keep_singles.ensures) in
+    takes_out_then cast c.args.self.now c.requires c.index.result.now c.keep_singles.new.buffer at kept c.in_ok-time.time
     (c.in_ok-time.ensures.equal ∙ c.last_time.ensures ∙ ap (time_of c.args.self.now.reception.expander) of)
 
 pub returns : goal.returns
@@ -68,8 +68,8 @@ returns c =
     let there = slice_get_within buffers cast.sender can.buffer can.at in
     let at : slice_get buffers cast.sender ≡ Some c.index.result.now =
     ap (slice_get buffers) (sym of) ∙ vec_at buffers c.sender-sender.result c.index.result.now (omega (arith, of, there)) c.index.ensures in
-    let kept = subst (λ (b : Buffer). AreKept b (singles_of cast) c.keep_in.new.buffer) c.in_ok-buffer.ensures
-    (subst (λ (singles : List CastFields). AreKept c.in_ok-buffer.buffer singles c.keep_in.new.buffer) (c.of-singles.ensures ∙ ap singles_of c.in_ok-copy.ensures) c.keep_in.ensures) in
+    let kept = subst (λ (b : Buffer). AreKept b (singles_of cast) c.keep_singles.new.buffer) c.in_ok-buffer.ensures
+    (subst (λ (singles : List CastFields). AreKept c.in_ok-buffer.buffer singles c.keep_singles.new.buffer) (ap singles_of c.in_ok-copy.ensures) c.keep_singles.ensures) in
     IfOk-weaker c.come_out.result _ _ (λ messages come.
-    are_expanded_by_it cast c.args.self.now c.requires c.index.result.now c.keep_in.new.buffer at kept c.in_ok-time.time
+    are_expanded_by_it cast c.args.self.now c.requires c.index.result.now c.keep_singles.new.buffer at kept c.in_ok-time.time
     (c.in_ok-time.ensures.equal ∙ c.last_time.ensures ∙ ap (time_of c.args.self.now.reception.expander) of) messages.items come) c.come_out.ensures
