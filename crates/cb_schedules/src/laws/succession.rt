@@ -85,9 +85,10 @@ pub fn other_rules_are_wrong()
     ensures no_reserve { NoReserveLeavesNoRoom }
 {}
 
-/// All these laws but those of rounds and room hold of members with journals too, which end and come back. Members enter their calls,
-/// write, send and end at any moment, and come back with what is written. A begin is made once all entries of its member are written, and
-/// is written itself before anything else happens. No step takes back what a caller was shown, if it is shown written events alone.
+/// The laws of the cut, of nobody beside them and of the old group hold of members with journals too, which end and come back. Members
+/// enter their calls, write, send and end at any moment, and come back with what is written. A begin is made once all entries of its
+/// member are written, and is written itself before anything else happens. No step takes back what a caller was shown, if it is shown
+/// written events alone.
 pub fn successions_outlive_restarts()
     ensures same { EachJournaledSuccession ExactlyTheCutIsShown }
     ensures alike { EachJournaledSuccession TheSameIsShown }
@@ -95,6 +96,7 @@ pub fn successions_outlive_restarts()
     ensures vector { EachJournaledSuccession TheCutIsOneVector }
     ensures causal { EachJournaledSuccession TheCutIsCausal }
     ensures casts { EachJournaledSuccession CastsAreInTheCut }
+    ensures whole { EachJournaledSuccession TheCutCanBeFollowed }
     ensures one { EachJournaledSuccession NobodyBeginsByALaterPlan }
     ensures text { EachJournaledSuccession OneNumberHasOneText }
     ensures last { EachJournaledSuccession TheLastListGoesOneWay }

@@ -1,5 +1,5 @@
-use Rattle.cb_schedules.specs.SuccessionLaws.{ExactlyTheCutIsShown, TheSameIsShown, WhatWasShownIsInTheCut, TheCutIsOneVector, TheCutIsCausal, CastsAreInTheCut, NobodyBeginsByALaterPlan, OneNumberHasOneText, TheLastListGoesOneWay, TheCutIsDelivered, WhoIsListedHasEnded}
-use Rattle.cb_schedules.proofs.Successions.{exactly_the_cut_is_shown, the_same_is_shown, what_was_shown_is_in_the_cut, the_cut_is_one_vector, the_cut_is_causal, casts_are_in_the_cut, nobody_begins_by_a_later_plan, one_number_has_one_text, the_last_list_goes_one_way, the_cut_is_delivered, who_is_listed_has_ended}
+use Rattle.cb_schedules.specs.SuccessionLaws.{TheCutCanBeFollowed, ExactlyTheCutIsShown, TheSameIsShown, WhatWasShownIsInTheCut, TheCutIsOneVector, TheCutIsCausal, CastsAreInTheCut, NobodyBeginsByALaterPlan, OneNumberHasOneText, TheLastListGoesOneWay, TheCutIsDelivered, WhoIsListedHasEnded}
+use Rattle.cb_schedules.proofs.Successions.{the_cut_can_be_followed, exactly_the_cut_is_shown, the_same_is_shown, what_was_shown_is_in_the_cut, the_cut_is_one_vector, the_cut_is_causal, casts_are_in_the_cut, nobody_begins_by_a_later_plan, one_number_has_one_text, the_last_list_goes_one_way, the_cut_is_delivered, who_is_listed_has_ended}
 use Rattle.cb_schedules.proofs.SuccessionRestarts.{each_journaled_succession, what_was_shown_outlives_restarts}
 use Rattle.cb_schedules.proofs.laws.succession.successions_outlive_restarts.Goals as goal
 
@@ -38,3 +38,6 @@ returns-clause-listed c = each_journaled_succession WhoIsListedHasEnded who_is_l
 
 pub returns-clause-kept : goal.returns-clause-kept
 returns-clause-kept c = what_was_shown_outlives_restarts
+
+pub returns-clause-whole : goal.returns-clause-whole
+returns-clause-whole c = each_journaled_succession TheCutCanBeFollowed the_cut_can_be_followed
