@@ -10,12 +10,12 @@
 #   - checks/mutants.py finds that the mutants and checks/wrong-bodies/refused.tsv differ;
 #   - an example does not run, or prints something else.
 # In the pages a block ```sh is an example, run by bash at the top of a scratch copy. It has to end with status 0, or N after `sh status=N`.
-# Where the next block is ```text, that is what it prints: `..` stands there for any text, and alone on a line for any lines. One after
+# Where the next block is ```text without a PATH, that is what it prints: `..` stands there for any text, and alone on a line for any lines. One after
 # `sh long` is not run. A block ```rust PATH#MARK shows the lines of PATH between `// MARK: begin` and `// MARK: end`; without a mark
 # it shows some lines of PATH. So do ```c, ```text and, with `#` for `//`, ```python. In the pages of
 # bindings/ a block without PATH is left to the tests there.
 #   checks/pages.sh          all of it; an example takes a minute or two. JOBS=4 runs four at a time; two if not said
-#   checks/pages.sh text     all but the examples, in a second
+#   checks/pages.sh text     all but the examples, in some seconds
 #   checks/pages.sh WORD     all, but of the examples only those whose commands have this word
 set -u
 top=$(cd "$(dirname "$0")/.." && pwd)
@@ -190,7 +190,7 @@ def examples(page, text):
             continue
         status = next((int(word[7:]) for word in words if word.startswith("status=")), 0)
         behind = found[place + 1] if place + 1 < len(found) else (0, [], [])
-        yield page, number, "\n".join(body), status, behind[2] if behind[1][:1] == ["text"] else None
+        yield page, number, "\n".join(body), status, behind[2] if behind[1] == ["text"] else None
 
 
 def pattern(lines):

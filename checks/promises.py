@@ -30,17 +30,16 @@ def crates():
 
 def first_sentence(doc):
     """The first sentence of a doc comment, on one line and fit for a cell of a table."""
-    paragraph = " ".join(doc).split("  ")[0].strip() if "" not in doc else " ".join(doc[: doc.index("")])
-    end = re.search(r"(?<!\.)[.:](?=\s+[A-Z`(])|(?<!\.)\.$", paragraph)
-    sentence = paragraph[: end.start() + 1] if end else paragraph
-    return re.sub(r":$", ".", sentence).replace("|", r"\|")
+    paragraph = " ".join(doc[: doc.index("")] if "" in doc else doc)
+    end = re.search(r"(?<!\.)\.(?=\s+[A-Z`(]|$)", paragraph)
+    return (paragraph[: end.end()] if end else paragraph).replace("|", r"\|")
 
 
 def paragraphs(path):
     """The paragraphs of a source's head."""
     head = re.match(r"(?://!.*\n)*", read(path))[0]
     lines = [line[3:].strip() for line in head.splitlines()]
-    return " ".join(line or "\n" for line in lines).split("\n")
+    return [text.strip() for text in " ".join(line or "\n" for line in lines).split("\n")]
 
 
 def root(crate):
@@ -72,10 +71,12 @@ def functions(path):
         elif line == "}":
             block = ""
         elif begun and (begun[1] or not block):
-            clauses, text = [], line
-            while not re.fullmatch(r"\s*\{\}?|.*;|\s*(?:pub |fn |\)).*\{\}?", text):
+            clauses, text, depth = [], line, 0
+            while not (depth == 0 and re.fullmatch(r"\s*\{\}?|.*;", text)) and (clauses or not re.search(r"\{\}?$", text)):
                 text = next(lines)
-                clauses += [name or "" for word, name in re.findall(r"^\s+(ensures|requires)(?: (\w+))? \{", text)]
+                clause = re.match(r"\s+(?:ensures|requires)(?: (\w+))? \{", text) if depth == 0 else None
+                clauses += [clause[1] or ""] if clause else []
+                depth += text.count("{") - text.count("}") if clause or depth else 0
             if clauses:
                 yield block, bool(begun[2]), begun[3], doc, clauses, text == "{}"
         if not line.lstrip().startswith("#["):
@@ -106,7 +107,8 @@ def rows(crate):
             elif of:
                 shown = is_public and bare(of[1]) in names and f"{bare(of[1])}::{name}"
             else:
-                shown = is_public and (name in names or module.split("/")[0] in modules or module == "lib") and name
+                is_exported = name in names or module == "lib" or module.split("/")[0] in (*modules, "laws")
+                shown = is_public and is_exported and name
             if shown:
                 said = [clause for clause in clauses if clause]
                 row = f"| {'law ' if is_law else ''}`{shown}` | {first_sentence(doc)} | "
@@ -121,10 +123,10 @@ def tables():
         table = rows(crate)
         if table:
             head = paragraphs(root(crate))
-            lines += ["", f"## `{crate}`", "", *wrap(head[0].strip(), WIDTH), "", "| Call | Promise | File: clauses |", "|---|---|---|", *table]
+            lines += ["", f"## `{crate}`", "", *wrap(head[0], WIDTH), "", "| Call | Promise | File: clauses |", "|---|---|---|", *table]
             for text in head:
-                if text.strip().startswith(NOT_PROVED):
-                    lines += ["", *wrap(text.strip(), WIDTH)]
+                if text.startswith(NOT_PROVED):
+                    lines += ["", *wrap(text, WIDTH)]
     return "\n".join(lines) + "\n"
 
 

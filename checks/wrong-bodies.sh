@@ -55,7 +55,7 @@ try() {
         if [ "$of" = inner-tests ]; then
             shown=$("$copy/checks/inner-tests.sh" "$crate" 2>&1)
         else
-            shown=$(cd "$copy/crates/$of" && rt try --test 2>&1)
+            shown=$(cd "$copy/crates/$of" && rt try --test --seconds 600 2>&1)
         fi
         refusing=$(grep -E '^test .* \.\.\. ' <<< "$shown" | grep -vE '\.\.\. (ok|ignored)$' | awk '{ n = split($2, path, "::"); print path[n] }')
         [ -z "$refusing" ] || break

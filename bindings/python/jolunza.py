@@ -686,7 +686,7 @@ class Member:
             return self._output(before, after, received)
 
     def _before(self, call: Call) -> tuple[jolunza_counts, tuple[Any, ...], jolunza_received]:
-        """What was counted before a call, and what it is given."""
+        """The counts before a call, and its arguments."""
         given, received = call.given, jolunza_received()
         if call.name in ("receive", "receive_loaded"):
             given += (byref(received),)

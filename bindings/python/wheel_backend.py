@@ -18,7 +18,7 @@ TAG = "py3-none-manylinux_2_17_x86_64"
 
 
 def described():
-    """The metadata that pyproject.toml says, by its names there."""
+    """The metadata of pyproject.toml, by its names there."""
     text = (HERE / "pyproject.toml").read_text(encoding="utf-8")
     return dict(re.findall(r'^([\w-]+) = "(.*)"$', text.partition("[project]")[2], re.M))
 

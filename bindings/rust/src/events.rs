@@ -54,7 +54,7 @@ pub(crate) struct EventList {
 }
 
 impl EventList {
-    /// Of a group of this size.
+    /// A list for a group of this size.
     pub fn new(size: usize) -> EventList {
         EventList { heads: Vec::new(), payloads: Vec::new(), times: Vec::new(), size }
     }

@@ -29,7 +29,7 @@ impl Call<'_> {
     }
 }
 
-/// What the calls of a [`Journal::turn`](crate::Journal::turn) did. The entries of all of them are on the disk.
+/// The effect of the calls of a [`Journal::turn`](crate::Journal::turn). The entries of all of them are on the disk.
 #[derive(Debug)]
 #[must_use = "its frames are to be sent, and its events are to be shown"]
 pub struct Turn {
@@ -57,7 +57,7 @@ impl Turn {
         self.frames.all()
     }
 
-    /// What the calls cast or delivered, in this order.
+    /// The messages that the calls cast or delivered, in this order.
     pub fn events(&self) -> Events<'_> {
         self.events.all()
     }
