@@ -8,6 +8,11 @@ pub mod Comparing
 pub mod Stamps
 pub mod WayBack
 pub mod Extending
+pub mod Parts
+mod FollowingRows
+pub mod Following
+pub mod Newcomers
+pub mod PastStands
 pub mod SmallerSums
 pub mod OneMessage
 pub mod GroupLists

@@ -41,7 +41,7 @@ still_cast before after i x app were new j a s stands =
     ]
 
 -- the message of each event is cast in some list
-message_is_cast : (size : ℕ) (lists : StampedLists) → StampedRun size lists → (j a : ℕ) (s : Event) → slice_get (lists j) a ≡ Some s
+pub message_is_cast : (size : ℕ) (lists : StampedLists) → StampedRun size lists → (j a : ℕ) (s : Event) → slice_get (lists j) a ≡ Some s
     → StandsIn lists (stamped.Cast (message_of s))
 message_is_cast size lists (StampedRun.Start _ empty) j a s stands =
     let none : slice_get [] a ≡ Some s = subst (λ (xs : List Event). slice_get xs a ≡ Some s) (empty j) stands in

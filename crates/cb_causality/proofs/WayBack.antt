@@ -47,7 +47,7 @@ count_none test (x ∷ xs) h =
     omega (arith, count-cons test x xs)
 
 -- each message of a run is of a member of the group
-in_group : (size : ℕ) (lists : Lists) → Run size lists → (j a : ℕ) (e : CausalEvent) → slice_get (lists j) a ≡ Some e → (name_of e).sender < size
+pub in_group : (size : ℕ) (lists : Lists) → Run size lists → (j a : ℕ) (e : CausalEvent) → slice_get (lists j) a ≡ Some e → (name_of e).sender < size
 in_group size lists (Start _ empty) j a e stands =
     let none : slice_get [] a ≡ Some e = subst (λ (xs : List CausalEvent). slice_get xs a ≡ Some e) (empty j) stands in absurd (cc none)
 in_group size lists (Then before _ run (Casts i payload inside app)) j a e stands =

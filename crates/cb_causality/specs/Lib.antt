@@ -5,6 +5,8 @@ pub mod StampedMachine
 pub mod Extension
 pub mod Laws
 pub mod Lists
+pub mod Parts
+pub mod Following
 pub mod CausalGroup
 pub mod StampedGroup
 pub mod FaultText

@@ -5,8 +5,10 @@
 ghost use Rattle.std.specs.Prelude.{ℕ};
 ghost use Rattle.cb_causality.specs.CausalMachine.{Run, Step};
 ghost use Rattle.cb_causality.specs.Extension.{CastsInTurnExtend, DeliveriesInTurnExtend, ErasesToExtension, ExtendsRuns};
+ghost use Rattle.cb_causality.specs.Following.{ComesBehind, EachGroupBehind, FollowingGroupsAreOneRun, KeepsTheOrderBefore, KeepsTheOrderInside};
 ghost use Rattle.cb_causality.specs.Laws.{EachRun, EachStep, EachStampedRun, IsAcyclic, IsIrreflexive, IsTransitive, KeepsPaths, TimesTellOrder, TimesCountThePast, TimesHaveSize, IsInOrder, IsErasure, DelayRuleIsExact, DependsOnListsAlone, RelatesListsAlone, PastHasSmallerSum, OwnFieldIsNumber, OneNameOnePayload, OneNameOneMessage};
 ghost use Rattle.cb_causality.specs.Lists.{Appends};
+ghost use Rattle.cb_causality.specs.Parts.{ClosedPartsAreRuns, ClosedPartsKeepThePast};
 ghost use Rattle.cb_causality.specs.StampedMachine.{StampedRun, StampedStep, erased};
 
 use crate::event::CausalEvent;
@@ -86,4 +88,24 @@ pub fn a_name_tells_its_message()
     ensures number { EachStampedRun (λ size lists. OwnFieldIsNumber lists) }
     ensures payload { EachRun (λ size lists. OneNameOnePayload lists) }
     ensures message { EachStampedRun (λ size lists. OneNameOneMessage lists) }
+{}
+
+/// A part of a run that has with each of its messages all that happened before it is a run: of each list take what is kept. The past of
+/// what is kept is in it what it was.
+pub fn closed_parts_of_runs_are_runs()
+    ensures run { ClosedPartsAreRuns }
+    ensures past { ClosedPartsKeepThePast }
+{}
+
+/// Groups that follow one another are one run of all persons who were ever in one of them, however many groups these are. The members of
+/// each next group have all that anybody has before it, newcomers as deliveries in the order of one who had it; what they cast and deliver
+/// in their group is a run and follows there, with numbers that go on.
+///
+/// Every message of the next group happened after every message before. Two messages of the next group are ordered as in that
+/// group, and two messages before it as they were.
+pub fn groups_follow_as_one_run()
+    ensures run { FollowingGroupsAreOneRun }
+    ensures behind { EachGroupBehind ComesBehind }
+    ensures inside { EachGroupBehind KeepsTheOrderInside }
+    ensures before { EachGroupBehind KeepsTheOrderBefore }
 {}

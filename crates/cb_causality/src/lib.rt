@@ -20,8 +20,9 @@ pub use cb_times::Name;
 pub use event::CausalEvent;
 pub use fault::CastFault;
 pub use laws::{
-    a_name_tells_its_message, causal_broadcast_can_be_stamped, happened_before_is_strict_order,
-    machines_know_the_lists_alone, past_has_a_smaller_sum, runs_are_extended_by_several_steps,
-    stamped_broadcast_is_causal, steps_keep_the_past,
+    a_name_tells_its_message, causal_broadcast_can_be_stamped, closed_parts_of_runs_are_runs,
+    groups_follow_as_one_run, happened_before_is_strict_order, machines_know_the_lists_alone,
+    past_has_a_smaller_sum, runs_are_extended_by_several_steps, stamped_broadcast_is_causal,
+    steps_keep_the_past,
 };
 pub use stamped::StampedGroup;

@@ -47,7 +47,7 @@ there_push_is : (cs : List CastFields) (c : CastFields) (m : Name) → is_there 
 there_push_is cs c m = ap (list_any (is_named m)) (messages_in-push cs c) ∙ any-append (is_named m) (messages_in cs) (messages_of c)
 
 -- a list that is not empty has some element
-some_are : {A : Type 0} (xs : List A) → eqb (length xs) 0 ≡ false → 1 ≤ length xs
+pub some_are : {A : Type 0} (xs : List A) → eqb (length xs) 0 ≡ false → 1 ≤ length xs
 some_are xs some = let ne = eqb-false (length xs) 0 some in omega (arith, ne)
 
 -- what is there already adds nothing

@@ -171,7 +171,7 @@ module _ (setting : Setting) (s : GroupState) (inv : IsConsistent setting s) whe
   delivered_is_cast j i lt lt_i = delivered_at_most setting.group (facts_at s) inv.together j i lt lt_i
 
   -- the events count what is delivered
-  counted : (j i : ℕ) → counts_of (stamped_lists setting s j) i ≡ delivered (seat_at setting j) (facts_at s j) i
+  pub counted : (j i : ℕ) → counts_of (stamped_lists setting s j) i ≡ delivered (seat_at setting j) (facts_at s j) i
   counted j i = events_count (seat_at setting j) (casts_in (facts_at s j)) (view setting.group.size (facts_at s j)) i
 
   -- some other member has delivered what is stable of the casts of i, and i has cast that

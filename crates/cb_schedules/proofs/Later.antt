@@ -26,7 +26,7 @@ use Rattle.cb_schedules.specs.Consistent.{IsConsistent}
 use Rattle.cb_schedules.specs.RoundLaws.{IsNoCastStep}
 use Rattle.cb_schedules.proofs.Members.{stands_at}
 
-own_casts-append : (facts more : List Fact) → own_casts (facts ++ more) ≡ own_casts facts ++ own_casts more
+pub own_casts-append : (facts more : List Fact) → own_casts (facts ++ more) ≡ own_casts facts ++ own_casts more
 own_casts-append [] more = refl
 own_casts-append (OwnCast c ∷ facts) more = ap (λ (cs : List CastFields). c ∷ cs) (own_casts-append facts more)
 own_casts-append (CastReceived c ∷ facts) more = own_casts-append facts more
@@ -69,7 +69,7 @@ later_joins s t u first second = record {
 
 -- ---- a step
 
-abbrev IsNoCast : Call → Type 0
+abbrev pub IsNoCast : Call → Type 0
 IsNoCast (ToCast load) = ⊥
 IsNoCast (ToTake bytes) = Unit {0}
 IsNoCast ToTick = Unit {0}
@@ -109,7 +109,7 @@ tick_adds entries status (Ok t) =
     (λ _. one_entry entries (TickEntry status) (status_is_no_cast (frame_read status))) (λ _. same_facts (facts_of entries) (facts_of entries) refl)
 tick_adds entries status (Err refusal) = same_facts (facts_of entries) (facts_of entries) refl
 
-call_adds : (seat : Identity) (limit : ℕ) (entries : List EntryFields) (call : Call) → IsNoCast call → MoreFacts (facts_of entries) (facts_of (history_after seat limit entries call))
+pub call_adds : (seat : Identity) (limit : ℕ) (entries : List EntryFields) (call : Call) → IsNoCast call → MoreFacts (facts_of entries) (facts_of (history_after seat limit entries call))
 call_adds seat limit entries (ToCast load) none = absurd none
 call_adds seat limit entries (ToTake bytes) none = arrival_adds entries bytes (arrive_answer seat limit entries bytes)
 call_adds seat limit entries ToTick none = tick_adds entries _ (tick_answer seat limit entries)

@@ -51,3 +51,12 @@ pub mod Forgetting
 pub mod Cores
 pub mod CoreRounds
 pub mod CoreHelpRounds
+pub mod EndLists
+pub mod SuccessionLaws
+pub mod SuccessionSteps
+pub mod Successions
+pub mod SuccessionRows
+pub mod EndsHaveRoom
+pub mod SuccessionRounds
+pub mod SuccessionRestarts
+pub mod LeftOut

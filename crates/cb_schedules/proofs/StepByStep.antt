@@ -45,7 +45,7 @@ frames_go_on : (setting : Setting) (s : GroupState) (step : Step) → FramesGoOn
 unfolding step_after
 frames_go_on setting s step = asked_frames setting s _
 
-histories_go_on : (setting : Setting) (s : GroupState) → IsConsistent setting s → (step : Step) → HistoriesGoOn setting.group.size s.histories (step_after setting s step).histories
+pub histories_go_on : (setting : Setting) (s : GroupState) → IsConsistent setting s → (step : Step) → HistoriesGoOn setting.group.size s.histories (step_after setting s step).histories
 unfolding step_after
 histories_go_on setting s inv step =
     asked_is setting s inv.honest (λ (asked : Asked). HistoriesGoOn setting.group.size s.histories (after_asked setting s asked).histories)

@@ -19,3 +19,9 @@ pub mod Restarts
 pub mod RestartLaws
 pub mod RestartRounds
 pub mod ForgettingRestarts
+pub mod Succession
+pub mod SuccessionLaws
+pub mod SuccessionRounds
+pub mod SuccessionTraps
+pub mod SuccessionRestarts
+pub mod LeftOut
