@@ -63,7 +63,7 @@ LIMITS = {
     "goes": [1, 70, 0],
     "hands out": [4, 57, 0],
     "leaves": [16, 22, 0],
-    "the ten phrases": [1, 3, 0],
+    "the ten phrases": [0, 3, 0],
 }
 
 
