@@ -25,6 +25,8 @@ few_synced_rounds = {3: 64, 16: 16}
 ways = ["none", "memory", "file", "sync"]
 WINDOW = 64
 NUMBER = 7
+# how many bytes a line has for its check
+CHECK = 17
 
 
 def run(tool, size, payload, rounds, way):
@@ -84,8 +86,8 @@ def line_bytes(size, payload, sender, number):
     changes = size - 1 if number > 1 else sender
     frame = 1 + spelling(NUMBER) + spelling(sender) + spelling(number) + 1 + 2 * changes + spelling(payload) + payload
     if sender == 0:
-        return len("cast ") + 2 * frame + 1
-    return len("arrive ") + 2 * frame + len(f" {sender}.{number}") + 1
+        return len("cast ") + 2 * frame + CHECK + 1
+    return len("arrive ") + 2 * frame + len(f" {sender}.{number}") + CHECK + 1
 
 
 print(f"{'bytes of a journal':22}{'entries':>8}{'bytes':>10}{'a message':>10}{'of statuses':>12}")
@@ -94,10 +96,10 @@ for payload in [0, 32, 1024]:
         rounds = 320
         _, _, entries = run([], size, payload, rounds, "file")
         lines = pathlib.Path("journal.0").read_text("ascii").splitlines(keepends=True)
-        head = f"cbcast 1 group {NUMBER} size {size} window {WINDOW} member 0\n"
-        if lines[0] != head or len(lines) != entries + 1:
+        head = lines[0]
+        if not head.startswith(f"cbcast 1 group {NUMBER} size {size} window {WINDOW} member 0 ") or len(lines) != entries + 1:
             sys.exit("the journal is not that of the run")
-        statuses = sum(len(line) for line in lines if line.startswith("tick ") or line.endswith(" -\n"))
+        statuses = sum(len(line) for line in lines if line.startswith("tick ") or line[: -CHECK - 1].endswith(" -"))
         messages = sum(line_bytes(size, payload, sender, number + 1) for sender in range(size) for number in range(rounds))
         length = sum(map(len, lines))
         if len(head) + messages + statuses != length:

@@ -174,7 +174,8 @@ def longest_line(limits):
     window of each other member, and each message's number has as many digits as it can have."""
     window, last = (number(name, path) for name, path in OF_LINES.items())
     names = window * sum(len(f" {sender}.{last}") for sender in range(1, limits["JOLUNZA_MOST_MEMBERS"]))
-    return len("arrive ") + 2 * limits["JOLUNZA_LONGEST_FRAME"] + names + len("\n")
+    check = len(" 0123456789abcdef")
+    return len("arrive ") + 2 * limits["JOLUNZA_LONGEST_FRAME"] + names + check + len("\n")
 
 
 def of_crates():

@@ -21,7 +21,7 @@ CHANGES = [
     (HEADER, "JOLUNZA_LONGEST_FRAME 1456", "JOLUNZA_LONGEST_FRAME 1455", "JOLUNZA_LONGEST_FRAME"),
     (HEADER, "JOLUNZA_MOST_MESSAGES 32", "JOLUNZA_MOST_MESSAGES 33", "JOLUNZA_MOST_MESSAGES"),
     (HEADER, "JOLUNZA_BURST_TOO_LONG = 16", "JOLUNZA_BURST_TOO_LONG = 17", "JOLUNZA_BURST_TOO_LONG"),
-    (HEADER, "JOLUNZA_LONGEST_LINE 226408", "JOLUNZA_LONGEST_LINE 226407", "JOLUNZA_LONGEST_LINE"),
+    (HEADER, "JOLUNZA_LONGEST_LINE 226425", "JOLUNZA_LONGEST_LINE 226424", "JOLUNZA_LONGEST_LINE"),
     (HEADER, "size_t length, uint32_t *group, uint32_t *member);", "size_t length, uint32_t *member, uint32_t *group);", "jolunza_sender"),
     (HEADER, 'return "the bytes are no frame: drop them"', 'return "the bytes are no frame"', "JOLUNZA_MALFORMED is the bytes are no frame: drop them"),
     (HEADER, 'case JOLUNZA_TOO_FAR: return', 'case JOLUNZA_TOO_FAR - 20: return', "JOLUNZA_TOO_FAR has no sentence"),

@@ -76,10 +76,12 @@ class Group:
 
 
 def part_of(journal: bytes) -> bytes:
-    """The part of a trace that a journal is: what parley writes."""
-    head, entries = journal.split(b"\n", 1)
-    group, _, member = head.rpartition(b" member ")
-    return b"%s\nmember %s entries %d\n%send\n" % (group, member, entries.count(b"\n"), entries)
+    """The part of a trace that a journal is: what parley writes. A journal's lines have checks, where its head line has eleven words."""
+    lines = journal.split(b"\n")[:-1]
+    if len(lines[0].split(b" ")) == 11:
+        lines = [line.rpartition(b" ")[0] for line in lines]
+    group, _, member = lines[0].rpartition(b" member ")
+    return b"%s\nmember %s entries %d\n%send\n" % (group, member, len(lines) - 1, b"".join(line + b"\n" for line in lines[1:]))
 
 
 def scheduled(path: pathlib.Path) -> Group:

@@ -176,7 +176,7 @@ for me in 1 0 2; do type $me '/group 8'; done
 says 0 'here'
 check 'what was said in vain is said again' within 20 grep -qF '1.1 is anybody there?' screen.2
 check 'all go on' within 20 grep -qF '0.1 here' screen.1.anew
-check 'the new group has a journal of its own' grep -qx 'cbcast 1 group 8 size 3 window 32 member 2' journal.2.8
+check 'the new group has a journal of its own' grep -q '^cbcast 1 group 8 size 3 window 32 member 2 ' journal.2.8
 kill -9 "${pids[2]}" && wait "${pids[2]}" 2> /dev/null
 begin 2 screen.2.back --journal journal.2
 check 'it comes back there' within 20 grep -qx 'parley: member 2 of 3 in group 8, back by its journal' screen.2.back.said

@@ -23,7 +23,7 @@ import math
 import re
 import sys
 from collections import defaultdict
-from typing import Callable, Iterator, NamedTuple, Optional, Tuple
+from typing import Callable, Iterable, Iterator, NamedTuple, Optional, Sequence, Tuple
 
 MOST_MEMBERS, LONGEST_PAYLOAD, MOST_MESSAGES, LAST_NUMBER = 64, 1024, 32, 0xFFFFFFFF
 
@@ -35,9 +35,16 @@ class Fault(Exception):
 # ---- what the files contain
 
 NUMBER, HEX, NAME = "(?:0|[1-9][0-9]{0,9})", "(?:[0-9a-f]{2})+", r"(?:0|[1-9][0-9]?)\.[1-9][0-9]{0,9}"
-HEAD = re.compile(f"cbcast 1 group ({NUMBER}) size ({NUMBER}) window ({NUMBER})(?: member ({NUMBER}))?")
+HEAD = re.compile(f"cbcast 1 group ({NUMBER}) size ({NUMBER}) window ({NUMBER})(?: member ({NUMBER})( [0-9a-f]{{16}})?)?")
 MEMBER_OR_END = re.compile(f"member ({NUMBER}) entries ({NUMBER})|end")
 ENTRY = re.compile(f"(cast|tick) ({HEX})|(arrive) ({HEX}) (-|{NAME}(?: {NAME})*)")
+
+
+def check_behind(start: int, digits: Iterable[int]) -> int:
+    """The check of a line of a journal: one step for each byte (docs/PROTOCOL.md, "Journals")."""
+    for digit in digits:
+        start = (start * 6_364_136_223_846_793_005 + digit) % 2**64
+    return start
 
 
 class Name(NamedTuple):
@@ -77,6 +84,7 @@ class Text:
     def __init__(self, path: str, data: bytes) -> None:
         *self._lines, self.torn = data.decode("latin-1").split("\n")
         self._path, self._taken = path, 0
+        self._check: Optional[int] = None
 
     @property
     def place(self) -> str:
@@ -86,11 +94,25 @@ class Text:
     def left(self) -> int:
         return len(self._lines) - self._taken
 
+    def has_checks_of(self, seat: Sequence[int]) -> None:
+        """The head line, which was taken, and each line behind it end with a check; those behind it have one of this member."""
+        self._without(self._lines[0], 0)
+        self._check = check_behind(0, seat)
+
+    def _without(self, line: str, start: int) -> str:
+        entry, _, word = line.rpartition(" ")
+        if word != f"{check_behind(start, entry.encode('latin-1')):016x}":
+            raise Fault(f"{self.place}: the line is damaged, or lines before it are missing: its check is not that of this line here")
+        return entry
+
     def take(self, form: re.Pattern[str], wanted: str) -> re.Match[str]:
         self._taken += 1
         if self.left < 0:
             raise Fault(f"{self.place}: the file is cut: {wanted} is missing")
-        match = form.fullmatch(self._lines[self._taken - 1])
+        line = self._lines[self._taken - 1]
+        if self._check is not None:
+            line = self._without(line, self._check + self._taken - 1)
+        match = form.fullmatch(line)
         if not match:
             raise Fault(f"{self.place}: the line is not {wanted}")
         return match
@@ -144,6 +166,8 @@ def read(path: str, data: bytes) -> tuple[Group, list[History]]:
     if match[4] is None:
         return group, histories_in_trace(text, group)
     place, member = text.place, member_of(text, match[4], group)
+    if match[5] is not None:
+        text.has_checks_of([*group, member])
     history = History(place, member, take_entries(text, member, text.left))
     if text.torn:
         print(f"{text.place}: note: the line behind this one is torn, and is left out", file=sys.stderr)

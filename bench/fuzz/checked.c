@@ -263,7 +263,7 @@ static const struct buffer *line_of(const struct model *model, size_t index)
                           (const jolunza_name *)(const void *)within(&model->log.names, place.names * sizeof(jolunza_name))};
 
     line.length = 0;
-    text_line(&line, &entry);
+    text_line(&line, model, model->gone + index + 1, &entry);
     return &line;
 }
 

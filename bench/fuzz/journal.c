@@ -26,7 +26,7 @@ static void write_last(void)
 
     if (head->delivered > 0)
         entry.names = names + log->names.length / sizeof *names - head->delivered;
-    text_line(&text, &entry);
+    text_line(&text, &writer, log->entries, &entry);
 }
 
 static void write_burst(struct input *input)
@@ -71,10 +71,11 @@ static void write_call(struct input *input)
 
 static void write_journal(struct input *input, struct settings settings)
 {
-    int calls = take_byte(input) % MOST_CALLS;
+    int how = take_byte(input), calls = how % MOST_CALLS;
 
     if (model_open(&writer, settings.group, settings.size, settings.window, settings.me, 100000) != JOLUNZA_DONE)
         return;
+    writer.is_plain = how / MOST_CALLS % 4 == 1;
     text_head(&text, &writer);
     for (int i = 0; i < calls && input->left > 0 && text.length < MOST_TEXT; i++)
         write_call(input);

@@ -44,6 +44,7 @@ static void begin_done(struct model *model)
     if (model->limit > 0 || model->goes_on)
         return;
     model->log.events = 0;
+    model->gone += model->log.entries;
     model->log.entries = 0;
     for (size_t i = 0; (buffer = buffer_of(&model->log, i)) != NULL; i++)
         buffer->length = 0;

@@ -65,6 +65,8 @@ struct model {
     uint32_t stable[JOLUNZA_MOST_MEMBERS];
     struct log log;
     bool goes_on; /* the next call belongs to the one before: without a history the log is kept */
+    size_t gone; /* how many entries the log has no more */
+    bool is_plain; /* its journal has no checks */
     struct out out;
 };
 

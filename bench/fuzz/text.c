@@ -2,6 +2,7 @@
 
 #include <inttypes.h>
 #include <stdio.h>
+#include <stdlib.h>
 #include <string.h>
 
 enum { LONGEST_HISTORY = 16777216, LONGEST_WINDOW = 256 };
@@ -21,12 +22,47 @@ static void append_number(struct buffer *text, const char *words, uint32_t numbe
     append(text, digits, (size_t)snprintf(digits, sizeof digits, "%" PRIu32, number));
 }
 
+/* Checks. */
+
+static uint64_t step(uint64_t check, uint64_t digit)
+{
+    return check * UINT64_C(6364136223846793005) + digit;
+}
+
+static uint64_t check_of(uint64_t start, const uint8_t *bytes, size_t length)
+{
+    for (size_t i = 0; i < length; i++)
+        start = step(start, bytes[i]);
+    return start;
+}
+
+/* Where the check of the entry of this number begins. */
+static uint64_t start_of(uint32_t group, uint32_t size, uint32_t window, uint32_t me, uint64_t number)
+{
+    return step(step(step(step(0, group), size), window), me) + number;
+}
+
+enum { CHECK_LENGTH = 17 };
+
+/* A space and the check of the bytes behind the first `from`. */
+static void append_check(struct buffer *text, size_t from, uint64_t start)
+{
+    char word[CHECK_LENGTH + 1];
+
+    snprintf(word, sizeof word, " %016" PRIx64, check_of(start, text->at + from, text->length - from));
+    append(text, word, CHECK_LENGTH);
+}
+
 void text_head(struct buffer *text, const struct model *model)
 {
+    size_t from = text->length;
+
     append_number(text, "cbcast 1 group ", model->group);
     append_number(text, " size ", model->size);
     append_number(text, " window ", model->window);
     append_number(text, " member ", model->me);
+    if (!model->is_plain)
+        append_check(text, from, 0);
     append_text(text, "\n");
 }
 
@@ -41,9 +77,10 @@ static void append_frame(struct buffer *text, const uint8_t *frame, size_t lengt
     }
 }
 
-void text_line(struct buffer *text, const struct entry *entry)
+void text_line(struct buffer *text, const struct model *model, size_t number, const struct entry *entry)
 {
     static const char *const WORDS[] = {"cast ", "arrive ", "tick "};
+    size_t from = text->length;
 
     append_text(text, WORDS[entry->head->kind]);
     append_frame(text, entry->frame, entry->head->length);
@@ -53,6 +90,8 @@ void text_line(struct buffer *text, const struct entry *entry)
         append_number(text, " ", entry->names[i].sender);
         append_number(text, ".", entry->names[i].number);
     }
+    if (!model->is_plain)
+        append_check(text, from, start_of(model->group, model->size, model->window, model->me, number));
     append_text(text, "\n");
 }
 
@@ -145,7 +184,24 @@ struct line {
     struct buffer frame, names;
 };
 
-static bool is_head(struct rest rest, jolunza_journal *journal)
+/* Takes the check off the line's end, where it is right. */
+static bool take_check(struct rest *line, uint64_t start)
+{
+    struct buffer text = {0};
+    bool is_right;
+
+    if (line->length < CHECK_LENGTH)
+        return false;
+    append(&text, line->at, line->length - CHECK_LENGTH);
+    append_check(&text, 0, start);
+    is_right = memcmp(text.at, line->at, line->length) == 0;
+    free(text.at);
+    if (is_right)
+        line->length -= CHECK_LENGTH;
+    return is_right;
+}
+
+static bool is_plain_head(struct rest rest, jolunza_journal *journal)
 {
     return take_number_behind(&rest, "cbcast 1 group ", &journal->group) && take_number_behind(&rest, " size ", &journal->size)
         && take_number_behind(&rest, " window ", &journal->window) && take_number_behind(&rest, " member ", &journal->me)
@@ -153,9 +209,19 @@ static bool is_head(struct rest rest, jolunza_journal *journal)
         && journal->window <= LONGEST_WINDOW && journal->me < journal->size;
 }
 
-static bool is_entry(struct rest rest, struct line *line)
+/* A head with a check, or without one. */
+static bool is_head(struct rest rest, jolunza_journal *journal, bool *is_plain)
+{
+    *is_plain = is_plain_head(rest, journal);
+    return *is_plain || (take_check(&rest, 0) && is_plain_head(rest, journal));
+}
+
+/* The line of the entry of this number in such a journal. */
+static bool is_entry(struct rest rest, const jolunza_journal *of, bool is_plain, size_t number, struct line *line)
 {
     line->names.length = 0;
+    if (!is_plain && !take_check(&rest, start_of(of->group, of->size, of->window, of->me, number)))
+        return false;
     if (take_words(&rest, "cast "))
         line->kind = JOLUNZA_CAST;
     else if (take_words(&rest, "arrive "))
@@ -241,14 +307,14 @@ static struct resumed fault(uint32_t code, size_t line)
 }
 
 /* Takes all entries; the lines behind the head are those of entries. Answers which is not legal, from 1 on, or 0. */
-static size_t enter_all(struct model *model, struct rest text)
+static size_t enter_all(struct model *model, struct rest text, const jolunza_journal *journal)
 {
     static struct line line;
     struct rest next;
 
     model->goes_on = true;
     for (size_t number = 1; take_line(&text, &next); number++)
-        if (!is_entry(next, &line) || !enter(model, &line))
+        if (!is_entry(next, journal, model->is_plain, number, &line) || !enter(model, &line))
             return number;
     model->goes_on = false;
     model->out.count = 0;
@@ -257,13 +323,13 @@ static size_t enter_all(struct model *model, struct rest text)
 }
 
 /* Counts the lines of entries, up to one that is bad, and their bytes. */
-static bool are_entries(struct rest text, jolunza_journal *journal)
+static bool are_entries(struct rest text, jolunza_journal *journal, bool is_plain)
 {
     static struct line line;
     struct rest next;
 
     for (; take_line(&text, &next); journal->entries++) {
-        if (!is_entry(next, &line))
+        if (!is_entry(next, journal, is_plain, journal->entries + 1, &line))
             return false;
         journal->read += next.length + 1;
     }
@@ -276,20 +342,22 @@ struct resumed text_resume(struct model *model, const uint8_t *bytes, size_t len
     struct resumed resumed = {JOLUNZA_DONE, {0}};
     jolunza_journal *journal = &resumed.journal;
     size_t illegal;
+    bool is_plain;
 
     if (!take_line(&text, &head))
         return fault(JOLUNZA_NO_HEAD, 0);
-    if (!is_head(head, journal))
+    if (!is_head(head, journal, &is_plain))
         return fault(JOLUNZA_BAD_LINE, 1);
     journal->read = head.length + 1;
-    if (!are_entries(text, journal))
+    if (!are_entries(text, journal, is_plain))
         return fault(JOLUNZA_BAD_LINE, journal->entries + 2);
     if (limit > LONGEST_HISTORY)
         return fault(JOLUNZA_BAD_LIMIT, 0);
     if (limit > 0 && journal->entries > limit)
         return fault(JOLUNZA_TOO_LONG, 0);
     model_open(model, journal->group, journal->size, journal->window, journal->me, limit);
-    illegal = enter_all(model, text);
+    model->is_plain = is_plain;
+    illegal = enter_all(model, text, journal);
     if (illegal == 0)
         return resumed;
     model_close(model);

@@ -17,8 +17,8 @@ struct entry {
     const jolunza_name *names;
 };
 
-/* Appends its line. */
-void text_line(struct buffer *text, const struct entry *entry);
+/* Appends its line, as the member's journal has it for the entry of this number, from 1. */
+void text_line(struct buffer *text, const struct model *model, size_t number, const struct entry *entry);
 
 /* The code; and what stood in the journal, or the line at fault, or nothing. */
 struct resumed {

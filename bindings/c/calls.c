@@ -1196,15 +1196,15 @@ static void test_missing(void)
 }
 
 /* Member 1 takes "hi" of member 0, answers "yo" and reports. */
-static const char worked[] = "cbcast 1 group 7 size 3 window 4 member 1\n"
-                             "arrive 1107000100026869 0.1\n"
-                             "cast 1107010101000102796f\n"
-                             "tick 1207010200010001\n";
+static const char worked[] = "cbcast 1 group 7 size 3 window 4 member 1 d7b30c7ba9908154\n"
+                             "arrive 1107000100026869 0.1 dca6b8ca8e788eb9\n"
+                             "cast 1107010101000102796f 7544887d392a5da3\n"
+                             "tick 1207010200010001 ade903e47b1000d4\n";
 
 /* How many bytes its first lines have: the head alone, and with each entry more. */
-static const size_t lines[] = {42, 70, 96, 118};
+static const size_t lines[] = {59, 104, 147, 186};
 
-enum { HEAD = 42, ENTRIES = 3 };
+enum { HEAD = 59, ENTRIES = 3 };
 
 /* The member of the worked journal. */
 static void open_worked(jolunza_handle *handle, size_t limit)
@@ -1301,8 +1301,27 @@ static void comes_not_back(const char *text, size_t limit, uint32_t code, size_t
     test_closed(&handle);
 }
 
+/* A journal as they were once, without checks, goes on without. */
+static void test_plain_journal(void)
+{
+    static const char plain[] = "cbcast 1 group 7 size 3 window 4 member 1\narrive 1107000100026869 0.1\n";
+    static const char line[] = "cast 1107010101000102796f\n";
+    jolunza_handle handle = JOLUNZA_CLOSED_HANDLE;
+    struct filled *f = &filled;
+
+    CHECK(resume(&handle, plain, strlen(plain), 0) == JOLUNZA_DONE);
+    CHECK(jolunza_journal_head(&handle, f->bytes, sizeof f->bytes, &f->count) == JOLUNZA_DONE && f->count == 42);
+    CHECK(memcmp(f->bytes, plain, 42) == 0);
+    CHECK(cast(&handle, "yo") == JOLUNZA_DONE);
+    CHECK(jolunza_journal_line(&handle, 0, f->bytes, sizeof f->bytes, &f->count) == JOLUNZA_DONE && f->count == strlen(line));
+    CHECK(memcmp(f->bytes, line, strlen(line)) == 0);
+    jolunza_close(&handle);
+}
+
 static void test_resume(void)
 {
+    test_plain_journal();
+
     for (size_t entries = 0; entries <= ENTRIES; entries++) {
         size_t next = entries < ENTRIES ? lines[entries + 1] : lines[entries] + 1;
 
@@ -1314,6 +1333,9 @@ static void test_resume(void)
     comes_back(lines[ENTRIES], ENTRIES, ENTRIES + 1);
     comes_not_back("", LIMIT + 16777216, JOLUNZA_NO_HEAD, 0);
     comes_not_back("cbcast 1 group 7 size 3 window 4 member 1", LIMIT, JOLUNZA_NO_HEAD, 0);
+    comes_not_back("cbcast 1 group 7 size 3 window 4 member 1 d7b30c7ba9908154 0\n", LIMIT, JOLUNZA_BAD_LINE, 1);
+    /* a line with the check of another place */
+    comes_not_back("cbcast 1 group 7 size 3 window 4 member 1 d7b30c7ba9908154\ncast 1107010101000102796f 7544887d392a5da3\n", LIMIT, JOLUNZA_BAD_LINE, 2);
     comes_not_back("cbcast 1 group 7 size 3 window 4 member 3\n", LIMIT + 16777216, JOLUNZA_BAD_LINE, 1);
     comes_not_back("cbcast 1 group 7 size 3 window 4 member 1\ntick 12\n\n", LIMIT, JOLUNZA_BAD_LINE, 3);
     comes_not_back(worked, 16777217, JOLUNZA_BAD_LIMIT, 0);

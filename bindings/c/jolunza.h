@@ -48,12 +48,12 @@ extern "C" {
 #define JOLUNZA_MOST_MESSAGES 32
 
 /*
- * The most bytes of a line of a journal, with its line feed: "arrive", a space, the longest frame in hexadecimal digits, and a
- * space and a name for each message that the frame delivers. One frame delivers at most 256 messages, the widest window, of each
- * of 63 others; member 0 has the longest names of others: 54 have a number of two digits, and 9 one of one digit.
- * 6 + 1 + 2 * 1,456 + 54 * 256 * (1 + 2 + 1 + 10) + 9 * 256 * (1 + 1 + 1 + 10) + 1
+ * The most bytes of a line of a journal, with its line feed: "arrive", a space, the longest frame in hexadecimal digits, a space
+ * and a name for each message that the frame delivers, and a space and the check. One frame delivers at most 256 messages, the
+ * widest window, of each of 63 others; member 0 has the longest names of others: 54 have a number of two digits, and 9 one of one.
+ * 6 + 1 + 2 * 1,456 + 54 * 256 * (1 + 2 + 1 + 10) + 9 * 256 * (1 + 1 + 1 + 10) + 1 + 16 + 1
  */
-#define JOLUNZA_LONGEST_LINE 226408
+#define JOLUNZA_LONGEST_LINE 226425
 
 /* The codes that the calls return. jolunza_text has a sentence for each. */
 enum jolunza_code {
@@ -357,12 +357,15 @@ uint32_t jolunza_missing(jolunza_handle *handle, uint32_t member, jolunza_range 
 uint32_t jolunza_resume(jolunza_handle *handle, const uint8_t *bytes, size_t length, size_t history_max,
                         jolunza_journal *journal);
 
-/* The head line of the member's journal with its line feed, as far as it fits; `length` is its number of bytes. Or NO_MEMORY. */
+/*
+ * The head line of the member's journal with its line feed, as far as it fits; `length` is its number of bytes. Or NO_MEMORY. It
+ * and each line end with a check, so that jolunza_resume names the line that was damaged; a journal without checks goes on without.
+ */
 uint32_t jolunza_journal_head(jolunza_handle *handle, uint8_t *text, size_t capacity, size_t *length);
 
 /*
  * The line of entry `index`, from 0, with its line feed, as far as it fits; `length` is how many bytes it has, at most
- * JOLUNZA_LONGEST_LINE. NONE_THERE where there is no such entry, or NO_MEMORY.
+ * JOLUNZA_LONGEST_LINE. NONE_THERE where there is no such entry, or NO_MEMORY. It is the same as often as it is asked for.
  * After each cast, receive and tick that was done write the lines of all entries that it added; jolunza_receive_parts may add
  * several. They are those from the old counts.entries on; without a history all, 0 to counts.entries - 1, and only until the next
  * of these calls. Sync the file before you send a frame or show an event of the call. help, load and a refused call add no entry.

@@ -32,7 +32,7 @@ from typing import Any, Iterable, Iterator, NamedTuple, Optional, Sequence, Type
 
 LONGEST_PAYLOAD = 1024
 LONGEST_FRAME = 1456
-LONGEST_LINE = 226408
+LONGEST_LINE = 226425
 MOST_MEMBERS = 64
 MOST_MESSAGES = 32
 
@@ -787,11 +787,16 @@ class Journal(Member):
     journal, or that of another member, stays as it is: a `Refusal`, or `OtherJournal`. While the journal is open, another one that opens
     the file gets a `LockedJournal`.
 
+    A damaged file is refused with the `line` of the damage. Where `cut_at` is that very line, the file is cut in front of it; else nothing
+    is. What was cut off is lost to the member: if frames of it were sent, the others know more of it than it does, and ignore it.
+
     After a fault of the file, or an exception that a signal handler raises before the lines are known to be on the disk, each call raises
     a `JournalFault`, and nothing is written: close it, and open it anew.
     """
 
-    def __init__(self, path: Union[str, os.PathLike[str]], settings: Settings, history_max: int = 0) -> None:
+    def __init__(
+        self, path: Union[str, os.PathLike[str]], settings: Settings, history_max: int = 0, *, cut_at: Optional[int] = None
+    ) -> None:
         self._path = os.fsdecode(path)
         self._fault: Optional[JournalFault] = None
         with _faults_of(self._path):
@@ -799,7 +804,7 @@ class Journal(Member):
             try:
                 fcntl.flock(self._file, fcntl.LOCK_EX | fcntl.LOCK_NB)
                 self._prepare(history_max)
-                self._come_back(settings)
+                self._come_back(settings, cut_at)
                 self._sync_folder()
             except BaseException:
                 self._file.close()
@@ -813,15 +818,17 @@ class Journal(Member):
         super().close()
         self._file.close()
 
-    def _come_back(self, settings: Settings) -> None:
+    def _come_back(self, settings: Settings, cut_at: Optional[int]) -> None:
         self._file.seek(0)
         text = self._file.read()
         try:
             read = self._resume(text, self._path)
         except Refusal as refusal:
-            if refusal.code is not Code.NO_HEAD:
+            if refusal.code is Code.NO_HEAD:
+                return self._begin(text, settings)
+            if cut_at is None or cut_at < 2 or refusal.line != cut_at:
                 raise
-            return self._begin(text, settings)
+            read = self._resume(b"\n".join([*text.split(b"\n", cut_at - 1)[:-1], b""]), self._path)
         if self.settings != settings:
             raise OtherJournal(self._path, self.settings)
         self._file.truncate(read.read)

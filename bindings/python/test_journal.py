@@ -12,15 +12,35 @@ import tempfile
 import threading
 import time
 import unittest
-from typing import Any, Callable, Iterator
+from typing import Any, Callable, Iterable, Iterator
 from unittest import mock
 
 from jolunza import Call, Code, JolunzaError, Journal, JournalFault, LockedJournal, Member, OtherJournal, Output, Refusal, Settings
 from test_jolunza import HI, Case, Group, helps, state, too_early
 
-HEAD = b"cbcast 1 group 7 size 3 window 8 member 1\n"
-TICK = b"tick 12070100\n"
 OWN = Settings(7, 3, 8, 1)
+PLAIN_HEAD = b"cbcast 1 group 7 size 3 window 8 member 1\n"
+TICK = b"tick 12070100\n"
+
+
+def check(start: int, digits: Iterable[int]) -> int:
+    """The check behind these digits (docs/PROTOCOL.md, "Journals")."""
+    for digit in digits:
+        start = (start * 6_364_136_223_846_793_005 + digit) % 2**64
+    return start
+
+
+def checked(start: int, line: bytes) -> bytes:
+    return b"%s %016x\n" % (line[:-1], check(start, line[:-1]))
+
+
+def checked_lines(lines: bytes, first: int = 1) -> bytes:
+    """These lines of entries, of which the first has this number, each with its check."""
+    start = check(0, OWN) + first
+    return b"".join(checked(start + place, line) for place, line in enumerate(lines.splitlines(keepends=True)))
+
+
+HEAD = checked(0, PLAIN_HEAD)
 
 
 class InAFile(Case):
@@ -88,7 +108,7 @@ class Comeback(InAFile):
     def test_each_line_is_that_of_the_protocol(self) -> None:
         casts = b"cast 1107010100046e6f6f6e\ncast 21070102000200036f6e65\n"
         arrives = b"arrive 11070002000162 -\narrive 11070001000161 0.1 0.2\n"
-        self.assertEqual(self.text()[0], HEAD + TICK + casts + arrives)
+        self.assertEqual(self.text()[0], HEAD + checked_lines(TICK + casts + arrives))
 
     def test_every_cut_is_a_beginning(self) -> None:
         text, states = self.text()
@@ -108,14 +128,16 @@ class Comeback(InAFile):
             self.assertEqual(self.has(), HEAD)
 
     def test_what_is_no_journal_is_named_and_left(self) -> None:
-        text = HEAD + TICK
         for given, code, line in (
             (b"a letter", Code.BAD_LINE, 1),
             (b"a letter\n", Code.BAD_LINE, 1),
-            (text + b"cast 110701010001\ncast\n", Code.BAD_LINE, 4),
-            (text + TICK, Code.NOT_LEGAL, 3),
-            (text + b"cast 11070102000161\n", Code.NOT_LEGAL, 3),
-            (text + b"arrive 11070001000161 -\n", Code.NOT_LEGAL, 3),
+            (PLAIN_HEAD + TICK + b"cast 110701010001\ncast\n", Code.BAD_LINE, 4),
+            (PLAIN_HEAD + TICK + TICK, Code.NOT_LEGAL, 3),
+            (HEAD + checked_lines(TICK + TICK), Code.NOT_LEGAL, 3),
+            (HEAD + TICK, Code.BAD_LINE, 2),
+            (HEAD + checked_lines(TICK) + checked_lines(TICK), Code.BAD_LINE, 3),
+            (HEAD + checked_lines(TICK + b"cast 11070102000161\n"), Code.NOT_LEGAL, 3),
+            (HEAD + checked_lines(TICK + b"arrive 11070001000161 -\n"), Code.NOT_LEGAL, 3),
         ):
             self.put(given)
             with self.assertRaises(Refusal) as raised:
@@ -125,7 +147,7 @@ class Comeback(InAFile):
             self.assertEqual(self.has(), given)
 
     def test_each_fault_comes_before_the_next(self) -> None:
-        text, over = HEAD + TICK + TICK, 16_777_217
+        text, over = HEAD + checked_lines(TICK + TICK), 16_777_217
         for given, history_max, code, line in (
             (b"a", over, Code.NO_HEAD, None),
             (text + b"?\n", over, Code.BAD_LINE, 4),
@@ -142,8 +164,48 @@ class Comeback(InAFile):
         with self.assertRaises(TypeError):
             Member.resume("cbcast")  # type: ignore[arg-type]
 
+    def test_a_journal_without_checks_goes_on_without(self) -> None:
+        self.put(PLAIN_HEAD + TICK)
+        with Journal(self.path, OWN) as journal:
+            journal.cast(b"a")
+        self.assertEqual(self.has(), PLAIN_HEAD + TICK + b"cast 11070101000161\n")
+
+    def test_each_bit_that_is_flipped_is_found_at_its_line(self) -> None:
+        """Of a journal of 50 entries. The last line feed ends the last line: without it the line is a torn one."""
+        member = Member(*OWN, history_max=100)
+        for number in range(1, 51):
+            member.receive(bytes([0x11, 7, 0, number, 0, 1, 97]))
+        lines = [member.journal_head(), *map(member.journal_line, range(50))]
+        text, number = bytearray(b"".join(lines)), 1
+        for place in range(len(text)):
+            for bit in range(8):
+                text[place] ^= 1 << bit
+                if place == len(text) - 1:
+                    self.assertEqual(Member.resume(bytes(text)).entries, 49)
+                else:
+                    with self.assertRaises(Refusal) as raised:
+                        Member.resume(bytes(text))
+                    self.assertEqual((raised.exception.code, raised.exception.line), (Code.BAD_LINE, number))
+                text[place] ^= 1 << bit
+            number += text[place] == ord("\n")
+
+    def test_a_damaged_journal_is_cut_at_its_line_alone(self) -> None:
+        damaged = PLAIN_HEAD + TICK + b"cost 11070101000161\r\ncast 11070101000161\n"
+        self.put(damaged)
+        for cut_at in (None, 1, 2, 4):
+            with self.assertRaises(Refusal) as raised:
+                Journal(self.path, OWN, cut_at=cut_at)
+            self.assertEqual((raised.exception.code, raised.exception.line, self.has()), (Code.BAD_LINE, 3, damaged))
+        for cut_at in (3, 2):
+            Journal(self.path, OWN, cut_at=cut_at).close()
+            self.assertEqual(self.has(), PLAIN_HEAD + TICK)
+        self.put(PLAIN_HEAD + TICK + TICK)
+        with Journal(self.path, OWN, cut_at=3) as journal:
+            journal.cast(b"a")
+        self.assertEqual(self.has(), PLAIN_HEAD + TICK + b"cast 11070101000161\n")
+
     def test_the_journal_of_another_member(self) -> None:
-        text = HEAD + TICK + b"ca"
+        text = HEAD + checked_lines(TICK) + b"ca"
         for other in (OWN._replace(group=8), OWN._replace(size=4), OWN._replace(window=9), OWN._replace(me=2)):
             self.put(text)
             with self.assertRaises(OtherJournal) as raised:
@@ -184,7 +246,7 @@ class Comeback(InAFile):
 
     def test_each_entry_is_written_once(self) -> None:
         for history_max in (100_000, 0):
-            journal, expected = Journal(self.path, OWN, history_max), HEAD
+            journal, expected, entries = Journal(self.path, OWN, history_max), HEAD, b""
             journal.load(bytes.fromhex("11070002000162 11070001000161 11070002000162"))
             calls: list[tuple[Callable[[], object], bytes]] = [
                 (lambda: journal.help(0), b""),
@@ -200,7 +262,8 @@ class Comeback(InAFile):
             for call, lines in calls:
                 with contextlib.suppress(Refusal):
                     call()
-                expected += lines
+                entries += lines
+                expected = HEAD + checked_lines(entries)
                 self.assertEqual(self.has(), expected)
             journal.close()
             journal = Journal(self.path, OWN, history_max)
@@ -208,7 +271,7 @@ class Comeback(InAFile):
             journal.help(0)
             self.assertEqual(self.has(), expected)
             journal.cast(b"b")
-            self.assertEqual(self.has(), expected + b"cast 110701020100020162\n")
+            self.assertEqual(self.has(), HEAD + checked_lines(entries + b"cast 110701020100020162\n"))
             journal.close()
             os.remove(self.path)
 
@@ -235,7 +298,7 @@ class Comeback(InAFile):
         file, journal._file = journal._file, mock.Mock(wraps=journal._file)
         journal._file.write.side_effect = lambda rest: file.write(rest[:3])
         journal.cast(b"a")
-        self.assertEqual(self.has(), HEAD + b"cast 11070101000161\n")
+        self.assertEqual(self.has(), HEAD + checked_lines(b"cast 11070101000161\n"))
         file.close()
 
     def test_a_line_for_which_there_is_no_memory(self) -> None:

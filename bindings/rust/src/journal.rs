@@ -1,6 +1,6 @@
 //! A member's journal in a file.
 
-use crate::{Call, Events, Member, Output, Refusal, ResumeFault, Settings, Turn};
+use crate::{Call, Events, Member, Output, Refusal, ResumeFault, Resumed, Settings, Turn};
 use std::error::Error;
 use std::fmt;
 use std::fs::{File, OpenOptions, TryLockError};
@@ -78,11 +78,28 @@ impl Journal {
         settings: Settings,
         history_max: usize,
     ) -> Result<Journal, JournalFault> {
-        let path = path.as_ref();
+        Journal::come_back(path.as_ref(), settings, history_max, None)
+    }
+
+    /// As `open`, but where just this line of the file is damaged, or tells what no call does, the file is cut in front of it; the head
+    /// line is 1, and is never cut off. Else nothing is cut: so the next start may have the same words.
+    ///
+    /// What was cut off is lost to the member. If frames of it were sent, the others know more of the member than it does, and ignore it:
+    /// then the group needs a new number.
+    pub fn open_cut_at(path: impl AsRef<Path>, settings: Settings, line: usize) -> Result<Journal, JournalFault> {
+        Journal::come_back(path.as_ref(), settings, 0, Some(line))
+    }
+
+    fn come_back(
+        path: &Path,
+        settings: Settings,
+        history_max: usize,
+        cut_at: Option<usize>,
+    ) -> Result<Journal, JournalFault> {
         let mut file = locked(path)?;
         let mut bytes = Vec::new();
         file.read_to_end(&mut bytes).map_err(in_file(path))?;
-        let member = match Member::resume_with_history(&bytes, history_max) {
+        let member = match resumed(&bytes, history_max, cut_at) {
             Ok(back) if back.settings() != settings => {
                 return Err(JournalFault::OtherJournal { path: path.into(), settings: back.settings() });
             }
@@ -256,6 +273,17 @@ impl Journal {
             self.fault = Some(fault.clone());
         }
         done
+    }
+}
+
+/// The member that comes back by these bytes, or by those in front of the line to cut at, where that one is at fault.
+fn resumed(bytes: &[u8], history_max: usize, cut_at: Option<usize>) -> Result<Resumed, ResumeFault> {
+    match Member::resume_with_history(bytes, history_max) {
+        Err(ResumeFault::BadLine { line } | ResumeFault::NotLegal { line }) if line > 1 && cut_at == Some(line) => {
+            let lines = bytes.split_inclusive(|byte| *byte == b'\n').take(line - 1);
+            Member::resume_with_history(&bytes[..lines.map(<[u8]>::len).sum()], history_max)
+        }
+        answer => answer,
     }
 }
 

@@ -8,7 +8,7 @@ pub const JOLUNZA_LONGEST_PAYLOAD: usize = 1024;
 pub const JOLUNZA_LONGEST_FRAME: usize = 1456;
 pub const JOLUNZA_MOST_MEMBERS: usize = 64;
 pub const JOLUNZA_MOST_MESSAGES: usize = 32;
-pub const JOLUNZA_LONGEST_LINE: usize = 226_408;
+pub const JOLUNZA_LONGEST_LINE: usize = 226_425;
 
 pub const JOLUNZA_DONE: u32 = 0;
 pub const JOLUNZA_CLOSED: u32 = 1;

@@ -22,6 +22,32 @@ const HISTORY_MAX: usize = 100_000;
 
 const HEAD: &str = "cbcast 1 group 7 size 3 window 8 member 1\n";
 
+/// The head line and the lines behind it without their checks, as a trace has them. What is torn stays.
+fn plain(text: &str) -> String {
+    let line = |line: &str| match line.strip_suffix('\n').and_then(|line| line.rsplit_once(' ')) {
+        Some((entry, _check)) => format!("{entry}\n"),
+        None => line.into(),
+    };
+    text.split_inclusive('\n').map(line).collect()
+}
+
+/// The check behind these digits (docs/PROTOCOL.md, "Journals").
+fn check(start: u64, digits: impl IntoIterator<Item = u64>) -> u64 {
+    let step = |check: u64, digit| check.wrapping_mul(6_364_136_223_846_793_005).wrapping_add(digit);
+    digits.into_iter().fold(start, step)
+}
+
+/// The journal of these lines, the head line first, each with its check.
+fn checked(lines: &[&str]) -> String {
+    let seat = check(0, [7, u64::from(SIZE), 8, u64::from(KILLED)]);
+    let line = |(place, line): (usize, &&str)| {
+        let start = if place == 0 { 0 } else { seat.wrapping_add(place as u64) };
+        let line = line.trim_end();
+        format!("{line} {:016x}\n", check(start, line.bytes().map(u64::from)))
+    };
+    lines.iter().enumerate().map(line).collect()
+}
+
 /// The first tick says that nothing is delivered.
 const TICK: &str = "tick 12070100\n";
 
@@ -247,7 +273,7 @@ fn two_crashes_in_a_row_lose_no_whole_line() {
     assert_eq!(place.open().member().counts().entries, 1);
     place.tear("cas");
     assert_eq!(sent(place.open().cast(b"a").unwrap().unwrap()).len(), 1);
-    assert_eq!(place.has(), format!("{HEAD}{TICK}cast 11070101000161\n"));
+    assert_eq!(place.has(), checked(&[HEAD, TICK, "cast 11070101000161\n"]));
     assert_eq!(payloads(place.open().events(..)), [b"a"]);
 }
 
@@ -286,7 +312,7 @@ fn each_line_is_that_of_the_protocol() {
         "arrive 120702010103 -\n",
         "tick 1207010200020003\n",
     ];
-    assert_eq!(text, lines.concat());
+    assert_eq!(text, checked(&lines));
     assert_eq!(member.journal_line(7), Err(Refusal::NoneThere));
 }
 
@@ -326,7 +352,7 @@ fn the_journal_of_another_member_is_refused() {
         assert!(matches!(&fault, JournalFault::OtherJournal { settings, .. } if *settings == own), "{fault}");
         let told = format!("{}: the journal is of member 1 of 3, group 7, window 8", place.0.display());
         assert_eq!((fault.to_string(), fault.path()), (told, place.0.as_path()));
-        assert_eq!(place.has(), format!("{HEAD}ca"));
+        assert_eq!(place.has(), format!("{}ca", checked(&[HEAD])));
     }
 }
 
@@ -339,10 +365,10 @@ fn nobody_else_has_the_journal() {
     let fault = place.fault(settings(KILLED));
     assert!(matches!(fault, JournalFault::InUse { .. }), "{fault}");
     assert_eq!(fault.to_string(), format!("{}: another has the journal open", place.0.display()));
-    assert_eq!(place.has(), format!("{HEAD}ca"));
+    assert_eq!(place.has(), format!("{}ca", checked(&[HEAD])));
     drop(journal);
     drop(place.open());
-    assert_eq!(place.has(), HEAD);
+    assert_eq!(place.has(), checked(&[HEAD]));
 }
 
 #[test]
@@ -357,6 +383,10 @@ fn what_is_no_journal_is_named_and_left() {
         (format!("{text}{TICK}"), Err(ResumeFault::NotLegal { line: 3 })),
         (format!("{text}cast 11070102000161\n"), Err(ResumeFault::NotLegal { line: 3 })),
         (format!("{text}arrive 11070001000161 -\n"), Err(ResumeFault::NotLegal { line: 3 })),
+        (checked(&[HEAD, TICK, TICK]), Err(ResumeFault::NotLegal { line: 3 })),
+        (checked(&[HEAD]) + TICK, first(2)),
+        (checked(&[HEAD, TICK]).replacen("tick", "tock", 1), first(2)),
+        (checked(&[HEAD, TICK]).replacen("member 1", "member 0", 1), first(1)),
     ];
     for (text, fault) in faults {
         assert_eq!(resumed(&text).map(drop), fault, "{text}");
@@ -368,6 +398,36 @@ fn what_is_no_journal_is_named_and_left() {
         assert_eq!(refused.source().unwrap().to_string(), expected.to_string());
         assert_eq!(place.has(), text);
     }
+}
+
+#[test]
+fn a_journal_without_checks_goes_on_without() {
+    for history_max in [HISTORY_MAX, 0] {
+        let place = Place::new("plain");
+        fs::write(&place.0, format!("{HEAD}{TICK}")).unwrap();
+        assert!(place.open_with(history_max).cast(b"a").unwrap().is_ok());
+        assert_eq!(place.has(), format!("{HEAD}{TICK}cast 11070101000161\n"));
+    }
+}
+
+#[test]
+fn a_damaged_journal_is_cut_at_its_line_alone() {
+    let place = Place::new("cut");
+    let damaged = format!("{HEAD}{TICK}cost 11070101000161\ncast 11070101000161\n");
+    fs::write(&place.0, &damaged).unwrap();
+    for line in [0, 1, 2, 4] {
+        let fault = Journal::open_cut_at(&place.0, settings(KILLED), line).unwrap_err();
+        assert!(matches!(fault, JournalFault::NotResumed { fault: ResumeFault::BadLine { line: 3 }, .. }), "{fault}");
+        assert_eq!(place.has(), damaged);
+    }
+    for line in [3, 2] {
+        drop(Journal::open_cut_at(&place.0, settings(KILLED), line).unwrap());
+        assert_eq!(place.has(), format!("{HEAD}{TICK}"));
+    }
+    fs::write(&place.0, format!("{HEAD}{TICK}{TICK}")).unwrap();
+    let mut journal = Journal::open_cut_at(&place.0, settings(KILLED), 3).unwrap();
+    assert!(journal.cast(b"a").unwrap().is_ok());
+    assert_eq!(place.has(), format!("{HEAD}{TICK}cast 11070101000161\n"));
 }
 
 #[test]
@@ -390,7 +450,7 @@ fn a_file_is_begun_where_it_has_a_part_of_the_head_line_alone() {
         let place = Place::new("begun");
         fs::write(&place.0, &HEAD[..length]).unwrap();
         drop(place.open());
-        assert_eq!(place.has(), HEAD);
+        assert_eq!(place.has(), checked(&[HEAD]));
     }
     let place = Place::new("letter");
     fs::write(&place.0, "a letter to Anna").unwrap();
@@ -424,25 +484,25 @@ fn the_entries_of_each_call_are_written_once() {
             expected += line;
             let output = call.written(&mut journal);
             assert_eq!(output.is_ok_and(|output| output.is_entered()), !line.is_empty());
-            assert_eq!(place.has(), expected);
+            assert_eq!(plain(&place.has()), expected);
         }
         let frames = [bytes_of("11070002000162"), bytes_of("11070001000161")];
         expected += &format!("arrive {} -\narrive {} 0.1 0.2\n", hexadecimal(&frames[0]), hexadecimal(&frames[1]));
         journal.load(&frames.concat()).unwrap();
         let (taken, mut output) = journal.receive_parts(0, &[7, 7]).unwrap().unwrap();
         assert_eq!(
-            (place.has(), taken, payloads(output.events())),
+            (plain(&place.has()), taken, payloads(output.events())),
             (expected.clone(), 2, vec![b"a".into(), b"b".into()])
         );
         let repeat = journal.receive_loaded(0..7).unwrap().unwrap();
-        assert_eq!((repeat.is_repeat(), place.has()), (true, expected.clone()));
+        assert_eq!((repeat.is_repeat(), plain(&place.has())), (true, expected.clone()));
         let before = reading(journal.member(), history_max);
         drop(journal);
         let mut back = place.open_with(history_max);
         assert_eq!((reading(back.member(), history_max), back.member().counts().entries), (before, 4));
         assert_eq!(back.events(..).map(|event| event.name.to_string()).collect::<Vec<_>>(), ["1.1", "0.1", "0.2"]);
         assert!(back.tick().unwrap().unwrap().is_entered());
-        assert_eq!(place.has(), format!("{expected}tick 1207010200020001\n"));
+        assert_eq!(plain(&place.has()), format!("{expected}tick 1207010200020001\n"));
         assert_eq!(payloads(back.cast(b"c").unwrap().unwrap().events()), [b"c"]);
     }
 }
@@ -508,7 +568,7 @@ fn a_datagram_is_taken_or_dropped_until_the_history_is_full() {
     assert_eq!((&host.sent[..], &host.shown[..], host.dropped), (&[][..], &[b"a".to_vec()][..], 1));
     let fault = take(&mut journal, &frames[2], &mut host).unwrap_err();
     assert_eq!((fault.to_string(), host.dropped), (Refusal::HistoryFull.to_string(), 1));
-    assert_eq!(place.has(), format!("{HEAD}arrive 11070001000161 0.1\n"));
+    assert_eq!(place.has(), checked(&[HEAD, "arrive 11070001000161 0.1\n"]));
 }
 
 /// A line that has many names is longer than what is copied at first.

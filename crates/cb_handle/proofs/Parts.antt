@@ -1,5 +1,5 @@
 -- Parts that are received one after another.
-use Rattle.std.proofs.Common.{◌≡◌, ◌≢◌, ◌⊎◌, ℕ, ◌+◌, ◌≤◌, ◌<◌, ◌==◌, Bool, true, false, List, [], ◌∷◌, ◌++◌, length, take, drop, Result, Ok, Err, get_or, sym, ap, subst, ◌∙◌, arith, inl, inr}
+use Rattle.std.proofs.Common.{◌≡◌, ◌≢◌, ◌⊎◌, ℕ, ◌+◌, ◌≤◌, ◌<◌, ◌==◌, Bool, true, false, List, [], ◌∷◌, ◌++◌, length, take, drop, Result, Ok, Err, get_or, refl, sym, ap, subst, ◌∙◌, arith, inl, inr}
 use Rattle.std.specs.Prelude.{IfErr, IfOk, if◌then◌else◌, slice_range, sum}
 use Rattle.std.proofs.lemmas.Bool.{eqb-true, lt-ltb, ne_eqb}
 use Rattle.std.proofs.Math.Dec.{ltb}
@@ -15,9 +15,10 @@ use Rattle.cb_member.specs.KeptCalls.{HasReceivedBehind, Tells}
 use Rattle.cb_member.specs.Received.{received_says, sent_by}
 use Rattle.cb_history.specs.Answers.{ArrivalSays}
 use Rattle.cb_handle.specs.declared.held.Held.{Held}
+use Rattle.cb_handle.specs.declared.received.ReceivedBlock.{ReceivedBlock}
 use Rattle.cb_handle.specs.declared.rows.Received.{Received}
 use Rattle.cb_handle.specs.Frames.{frames_of}
-use Rattle.cb_handle.specs.Calling.{AreLoaded, HasReceivedLoaded, HasReceivedToSend, OnEach, RefusesBytes, RefusesLoaded, received_row, row_of}
+use Rattle.cb_handle.specs.Calling.{AreLoaded, entries_held, forgotten_after, HasReceivedLoaded, HasReceivedToSend, OnEach, RefusesBytes, RefusesLoaded, received_row, row_of}
 use Rattle.cb_handle.specs.Parts.{AreReceived, OneMore, OnePart, HasReceivedParts, Leaves, RefusesParts, Stops, held_behind}
 
 -- ---- what is told
@@ -32,17 +33,28 @@ sends_so (takens.Accepted delivered changed out) says t = ap sent_by t.said
 sends_so takens.Repeat says t = ap sent_by t.said
 
 pub leaves_so : (stays : Bool) (old new : Held) (bytes : List ℕ) (r : taken.Received) (received : Received) → HasReceivedBehind stays old.kept new.kept bytes r
-    → received ≡ row_of r → frames_of new.frames ≡ sent_by (received_says r []) → new.loaded ≡ old.loaded → Leaves stays old new (λ after. HasReceivedToSend old after bytes received)
-leaves_so true old new bytes r received has told sends loaded = (
+    → received ≡ row_of r → frames_of new.frames ≡ sent_by (received_says r []) → new.loaded ≡ old.loaded → new.form ≡ old.form
+    → new.forgotten ≡ (if stays then old.forgotten else forgotten_after old.forgotten (length (entries_held old))) → Leaves stays old new (λ after. HasReceivedToSend old after bytes received)
+leaves_so true old new bytes r received has told sends loaded form forgotten = (
+  record new { kept = has.0; forgotten = forgotten_after old.forgotten (length (entries_held old)) },
+  record { says = has.1.says; answer = has.1.answer; told = told ∙ told_so r has.1.says has.1.tells; sends = sends ∙ sends_so r has.1.says has.1.tells; loaded = loaded; places = record { form = form; forgotten = refl }; goes_on = has.1.goes_on },
+  λ i. record new { kept = has.2 i; forgotten = forgotten i },
+)
+leaves_so false old new bytes r received has told sends loaded form forgotten = (
   record new { kept = has.0 },
-  record { says = has.1.says; answer = has.1.answer; told = told ∙ told_so r has.1.says has.1.tells; sends = sends ∙ sends_so r has.1.says has.1.tells; loaded = loaded; goes_on = has.1.goes_on },
+  record { says = has.1.says; answer = has.1.answer; told = told ∙ told_so r has.1.says has.1.tells; sends = sends ∙ sends_so r has.1.says has.1.tells; loaded = loaded; places = record { form = form; forgotten = forgotten }; goes_on = has.1.goes_on },
   λ i. record new { kept = has.2 i },
 )
-leaves_so false old new bytes r received has told sends loaded = (
-  record new { kept = has.0 },
-  record { says = has.1.says; answer = has.1.answer; told = told ∙ told_so r has.1.says has.1.tells; sends = sends ∙ sends_so r has.1.says has.1.tells; loaded = loaded; goes_on = has.1.goes_on },
-  λ i. record new { kept = has.2 i },
-)
+
+-- what was received from a block of the member's own was received
+pub received_so : (old new : Held) (block : ReceivedBlock) (bytes given : List ℕ) (answer : Result Received ArriveRefusal) → given ≡ bytes
+    → IfOk answer (λ received. Leaves false (record old { received = block }) new (λ after. HasReceivedToSend (record old { received = block }) after given received))
+    → IfOk answer (HasReceivedToSend old new bytes)
+received_so old new block bytes given (Err refusal) same leaves = tt
+received_so old new block bytes given (Ok received) same leaves =
+    let d = subst (λ (b : List ℕ). HasReceivedToSend (record old { received = block }) new b received) same
+        (subst (λ (h : Held). HasReceivedToSend (record old { received = block }) h given received) (sym leaves.2) leaves.1) in
+    record { says = d.says; answer = d.answer; told = d.told; sends = d.sends; loaded = d.loaded; places = record { form = d.places.form; forgotten = d.places.forgotten }; goes_on = d.goes_on }
 
 -- ---- parts, one after another
 

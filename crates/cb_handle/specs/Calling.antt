@@ -1,5 +1,5 @@
 -- What the calls do to a member with its frames.
-use Rattle.std.specs.Prelude.{◌≡◌, ◌⊎◌, ℕ, ◌+◌, ◌≤◌, true, false, List, [], ◌∷◌, length, slice_range, Option, None, option_to_list, Result, Ok, Err}
+use Rattle.std.specs.Prelude.{◌≡◌, ◌⊎◌, ℕ, ◌+◌, ◌%◌, ◌^◌, ◌≤◌, ◌==◌, if◌then◌else◌, true, false, List, [], ◌∷◌, length, slice_range, Option, Some, None, option_to_list, Result, Ok, Err}
 use Rattle.cb_delay.specs.declared.message.Event.{Event}
 use Rattle.cb_frames.specs.Fields.{Load}
 use Rattle.cb_history.specs.declared.answer.ArriveRefusal.{ArriveRefusal}
@@ -17,6 +17,7 @@ use Rattle.cb_member.specs.Helping.{answer_to_help_among}
 use Rattle.cb_member.specs.Kept as kept
 use Rattle.cb_member.specs.KeptCalls.{GoesOn, HasCast, HasTicked}
 use Rattle.cb_member.specs.Received.{sent_by}
+use Rattle.cb_journal.specs.declared.spelling.Place.{Place}
 use Rattle.cb_handle.specs.declared.held.Held.{Held}
 use Rattle.cb_handle.specs.declared.held.LoadedRefusal.{LoadedRefusal}
 use Rattle.cb_handle.specs.declared.held.LoadedRefusal.TheVariants.{NotLoaded, Refused}
@@ -59,12 +60,42 @@ counts_of held = record {
   entries = length (entries_held held);
 }
 
+-- ---- the lines of its journal
+
+-- that many entries more can't be read any more, if any can't
+abbrev pub forgotten_after : Option ℕ → ℕ → Option ℕ
+forgotten_after None count = None
+forgotten_after (Some before) count = Some ((before + count) % 2 ^ 64)
+
+-- a member that may have no history forgets its entries, and has none at first
+abbrev pub none_forgotten : ℕ → Option ℕ
+none_forgotten limit = if limit == 0 then Some 0 else None
+
+abbrev pub count_forgotten : Option ℕ → ℕ
+count_forgotten None = 0
+count_forgotten (Some count) = count
+
+-- where the line of the entry of this index stands
+abbrev pub place_held : Held → ℕ → Place
+place_held held index = record { spelling = record { form = held.form; seat = seat_held held }; number = (count_forgotten held.forgotten + index + 1) % 2 ^ 64 }
+
+-- The lines after a call have the places that they had: the journal has the same form, and a member without a history forgets what could be
+-- read before the call.
+pub record KeepsPlaces (old new : Held) : Type 0 where
+  pub form : new.form ≡ old.form
+  pub forgotten : new.forgotten ≡ forgotten_after old.forgotten (length (entries_held old))
+
+-- these are all entries of the member, of which the last ones can be read
+abbrev pub CountsEntries : Held → List EntryFields → Type 0
+CountsEntries held entries = (count_forgotten held.forgotten + length (entries_held held)) % 2 ^ 64 ≡ length entries % 2 ^ 64
+
 -- ---- calls
 
 -- a cast of this load was made, and its frame is the one that is to be sent; what is loaded stays
 abbrev pub HasCastToSend : Held → Held → Load → Type 0
 HasCastToSend old new load =
-    (frame : List ℕ) × (frames_of new.frames ≡ record { to = None; bytes = frame } ∷ []) × (new.loaded ≡ old.loaded) × HasCast old.kept new.kept load frame
+    (frame : List ℕ) × (frames_of new.frames ≡ record { to = None; bytes = frame } ∷ []) × (new.loaded ≡ old.loaded) × KeepsPlaces old new
+    × HasCast old.kept new.kept load frame
 
 -- what is told of an answer to received bytes
 abbrev pub received_row : ArrivalSays → Received
@@ -83,6 +114,7 @@ pub record HasReceivedToSend (old new : Held) (bytes : List ℕ) (received : Rec
   pub told : received ≡ received_row says
   pub sends : frames_of new.frames ≡ sent_by says
   pub loaded : new.loaded ≡ old.loaded
+  pub places : KeepsPlaces old new
   pub goes_on : GoesOn (ToTake bytes) old.kept new.kept
 
 -- the refusal is that of the definition, or out of memory
@@ -100,13 +132,13 @@ RefusesLoaded held first len (Refused refusal) = AreLoaded held first len × OnE
 
 -- the status was sent, and what is missing was asked for: those are the frames that are to be sent; what is loaded stays
 abbrev pub HasTickedToSend : Held → Held → Type 0
-HasTickedToSend old new = (new.loaded ≡ old.loaded) × HasTicked old.kept new.kept (frames_of new.frames)
+HasTickedToSend old new = (new.loaded ≡ old.loaded) × KeepsPlaces old new × HasTicked old.kept new.kept (frames_of new.frames)
 
 -- a third member is asked for help, or none is: that is what is to be sent; the member, what can be read of it and what is loaded stay
 abbrev pub HasAsked : Held → Held → (MemberState → Result (Option Outgoing) HelpFault) → Type 0
 HasAsked old new answer =
     (out : Option Outgoing) × OnEach old (λ m. answer m ≡ Ok out) × (frames_of new.frames ≡ option_to_list out)
-    × (new.loaded ≡ old.loaded) × (new.kept ≡ old.kept)
+    × (new.loaded ≡ old.loaded) × (new.form ≡ old.form) × (new.forgotten ≡ old.forgotten) × (new.kept ≡ old.kept)
 
 -- for what is missing of member i
 abbrev pub HasHelpToSend : Held → Held → ℕ → Type 0

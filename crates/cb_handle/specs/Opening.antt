@@ -7,6 +7,8 @@ use Rattle.cb_member.specs.KeptCalls.{IsNew}
 use Rattle.cb_handle.specs.declared.held.Held.{Held}
 use Rattle.cb_handle.specs.declared.held.OpenFault.{OpenFault}
 use Rattle.cb_handle.specs.declared.held.OpenFault.TheVariants.{BadGroup, BadNew}
+use Rattle.cb_journal.specs.declared.spelling.Form.TheVariants.{Checked}
+use Rattle.cb_handle.specs.Calling.{none_forgotten}
 use Rattle.cb_handle.specs.Frames.{frames_of}
 
 -- a history may have so many entries; none is kept where that is 0
@@ -19,12 +21,14 @@ pub record MayOpen (group : Parameters) (me limit : ℕ) : Type 0 where
   pub is_member : me < group.size
   pub is_limit : IsLimit limit
 
--- the member without entries, no frames, and nothing loaded
+-- the member without entries, no frames, and nothing loaded; its journal is one with checks
 pub record IsNewOf (group : Parameters) (me limit : ℕ) (held : Held) : Type 0 where
   pub may : MayOpen group me limit
   pub new : IsNew group me limit held.kept
   pub frames : frames_of held.frames ≡ []
   pub loaded : held.loaded ≡ []
+  pub form : held.form ≡ Checked
+  pub forgotten : held.forgotten ≡ none_forgotten limit
 
 -- the first of these that is not so; out of memory stands only in place of a member
 abbrev pub RefusesToOpen : Parameters → ℕ → ℕ → OpenFault → Type 0

@@ -8,9 +8,9 @@ use Rattle.cb_handle.specs.declared.rows.Received.{Received}
 use Rattle.cb_handle.specs.Frames.{frames_of}
 use Rattle.cb_handle.specs.Calling.{HasReceivedLoaded, RefusesLoaded}
 
--- the same of what is held
+-- the same of what is held, which has forgotten nothing then
 abbrev pub held_behind : Held → Held → Held
-held_behind before after = record after { kept = behind before.kept after.kept }
+held_behind before after = record after { kept = behind before.kept after.kept; forgotten = before.forgotten }
 
 -- this was done, and what was there to be read before it stays, where that is asked
 abbrev pub Leaves : Bool → Held → Held → (Held → Type 0) → Type 0

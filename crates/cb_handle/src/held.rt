@@ -16,7 +16,7 @@ ghost use Rattle.cb_handle.specs.Entries.{ShowsEntry, delayed_row, range_row};
 ghost use Rattle.cb_handle.specs.Opening.{RefusesToOpen, IsNewOf};
 ghost use Rattle.cb_handle.specs.Parts.{HasReceivedParts, Leaves, RefusesParts};
 ghost use Rattle.cb_handle.specs.Payloads.{AreThere, RefusesPayloads, burst_in};
-ghost use Rattle.cb_handle.specs.Calling.{OnEach, seat_held, events_held, entries_held, HasCastToSend, HasReceivedToSend, HasTickedToSend, HasHelpToSend, HasHelpAmongToSend, RefusesBytes, HasReceivedLoaded, RefusesLoaded, with_loaded, AreLoaded, counts_of, row_of};
+ghost use Rattle.cb_handle.specs.Calling.{OnEach, seat_held, events_held, entries_held, HasCastToSend, HasReceivedToSend, HasTickedToSend, HasHelpToSend, HasHelpAmongToSend, RefusesBytes, HasReceivedLoaded, RefusesLoaded, with_loaded, AreLoaded, counts_of, forgotten_after, none_forgotten as none_at_first, place_held, row_of};
 
 use crate::copies::{copy_front, from};
 use crate::frames::{Frames, show_frame, show_frames};
@@ -26,6 +26,7 @@ use crate::received::ReceivedBlock;
 use crate::rows::{Counts, Delayed, EntryHead, EventHead, FrameHead, Name, Range, Received};
 use bytes::Bytes;
 use cb_frames::MOST_MESSAGES;
+use cb_journal::{Form, Place, Spelling};
 use cb_member::{
     ArriveRefusal, BurstRefusal, CastRefusal, Group, HelpFault, Kept, MissingFault, NewFault,
     TickRefusal,
@@ -39,6 +40,10 @@ pub struct Held {
     pub frames: Frames,
     /// Those of the last `load` that was done. No other call changes them.
     pub loaded: Bytes,
+    /// How the lines of its journal are spelled.
+    pub form: Form,
+    /// How many of its entries can't be read any more, modulo 2 to the power 64; `None` where it keeps its history, so that all can.
+    pub forgotten: Option<u64>,
     received: ReceivedBlock,
 }
 
@@ -92,14 +97,16 @@ impl Held {
             return Err(OpenFault::BadGroup);
         };
         match Kept::new(alloc, group, me, history_max) {
-            Ok(kept) => Ok(Held::of(alloc, kept)),
+            Ok(kept) => Ok(Held::of(alloc, kept, Form::Checked, history_max)),
             Err(fault) => Err(OpenFault::BadNew(fault)),
         }
     }
 
-    /// This member, no frames, and nothing loaded.
-    pub fn of(alloc: Global, kept: Kept) -> Held
+    /// This member, whose journal has this form and all of whose entries can be read now, no frames, and nothing loaded.
+    pub fn of(alloc: Global, kept: Kept, form: Form, history_max: usize) -> Held
         ensures kept { result.kept ≡ kept }
+        ensures form { result.form ≡ form }
+        ensures forgotten { result.forgotten ≡ none_at_first history_max }
         ensures frames { frames_of result.frames ≡ [] }
         ensures loaded { result.loaded ≡ [] }
     {
@@ -107,6 +114,8 @@ impl Held {
             kept,
             frames: Frames::Several(Vec::new(alloc)),
             loaded: Bytes::new(),
+            form,
+            forgotten: none_forgotten(history_max),
             received: ReceivedBlock::new(alloc),
         }
     }
@@ -118,9 +127,11 @@ impl Held {
             RefusesExactly m (One payload.now) refusal)) }
         ensures same { OnErr result (self.new ≡ self.old) }
     {
+        let entries = self.entry_count();
         match self.kept.cast(payload) {
             Ok(frame) => {
                 self.frames = Frames::of_cast(frame);
+                self.forgotten = forgotten_by(self.forgotten, false, entries);
                 Ok(())
             }
             Err(refusal) => Err(refusal),
@@ -134,9 +145,11 @@ impl Held {
             RefusesBurstExactly m (many_of payloads.now) refusal)) }
         ensures same { OnErr result (self.new ≡ self.old) }
     {
+        let entries = self.entry_count();
         match self.kept.cast_burst(payloads) {
             Ok(frame) => {
                 self.frames = Frames::of_cast(frame);
+                self.forgotten = forgotten_by(self.forgotten, false, entries);
                 Ok(())
             }
             Err(refusal) => Err(refusal),
@@ -280,8 +293,12 @@ impl Held {
             RefusesArrival m bytes.now refusal)) }
         ensures same { OnErr result (self.new ≡ self.old) }
     {
+        let entries = self.entry_count();
         match self.kept.receive(bytes, stays) {
-            Ok(taken) => Ok(told(alloc, taken, &mut self.frames)),
+            Ok(taken) => {
+                self.forgotten = forgotten_by(self.forgotten, stays, entries);
+                Ok(told(alloc, taken, &mut self.frames))
+            }
             Err(refusal) => Err(refusal),
         }
     }
@@ -292,9 +309,11 @@ impl Held {
         ensures refused { IfErr result (λ refusal. OnEach self.old (λ m. RefusesTick m refusal)) }
         ensures same { OnErr result (self.new ≡ self.old) }
     {
+        let entries = self.entry_count();
         match self.kept.tick() {
             Ok(frames) => {
                 self.frames.replace(frames);
+                self.forgotten = forgotten_by(self.forgotten, false, entries);
                 Ok(())
             }
             Err(refusal) => Err(refusal),
@@ -343,6 +362,26 @@ impl Held {
             }
             Err(fault) => Err(fault),
         }
+    }
+
+    /// How many entries can be read.
+    fn entry_count(&self) -> usize
+        ensures { result ≡ length (entries_held self.now) }
+    {
+        self.kept.entries().len()
+    }
+
+    /// The place of the line of this index's entry in its journal.
+    pub fn place_of(&self, index: usize) -> Place
+        ensures { result ≡ place_held self.now index }
+    {
+        let first = Place::first(&Spelling {
+            form: self.form,
+            seat: self.kept.seat(),
+        });
+        first
+            .later(self.forgotten.unwrap_or(0))
+            .later(index as u64)
     }
 
     /// How many frames, events and entries there are.
@@ -501,6 +540,23 @@ impl Held {
             Err(fault) => Err(fault),
         }
     }
+}
+
+/// The count after a call, before which that many entries could be read. They are forgotten unless they stay.
+fn forgotten_by(forgotten: Option<u64>, stays: bool, entries: usize) -> Option<u64>
+    ensures { result ≡ if stays then forgotten else forgotten_after forgotten entries }
+{
+    match forgotten {
+        Some(before) if !stays => Some(before.wrapping_add(entries as u64)),
+        _ => forgotten,
+    }
+}
+
+/// A member with a history forgets no entry; one without has forgotten none yet.
+fn none_forgotten(history_max: usize) -> Option<u64>
+    ensures { result ≡ none_at_first history_max }
+{
+    if history_max == 0 { Some(0) } else { None }
 }
 
 /// What is told where no further part is taken: how many were, or why the first was not.

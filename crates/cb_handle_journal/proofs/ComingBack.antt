@@ -6,22 +6,24 @@ use Rattle.cb_history.specs.Events.{events}
 use Rattle.cb_history.specs.declared.history.Entry.{Entry}
 use Rattle.cb_history.specs.Facts.{EntryFields, entry_fields, facts_of}
 use Rattle.cb_history.specs.Group.{Identity}
+use Rattle.cb_history.specs.Legal.{AreEntriesOf}
 use Rattle.cb_history.specs.LegalHistory.{seat_in}
 use Rattle.cb_member.specs.CoreMember.{Core}
 use Rattle.cb_member.specs.Kept.{IsKept, Kept, kept_of}
 use Rattle.cb_journal.specs.declared.fault.ReadFault.{ReadFault}
 use Rattle.cb_journal.specs.declared.fault.ReadFault.TheVariants as reads
 use Rattle.cb_journal.specs.declared.reading.Journal.{Journal}
-use Rattle.cb_journal.specs.Reading.{IsRead, Reads, entries_in}
+use Rattle.cb_journal.specs.Reading.{IsRead, Reads, entries_in, spelling_in}
 use Rattle.cb_replay.specs.Returning.{IsCoreBack, SaysCoreRefused}
 use Rattle.cb_replay.specs.declared.fault.ResumeFault as replay
 use Rattle.cb_replay.specs.declared.fault.ResumeFault.TheVariants as replays
 use Rattle.cb_handle.specs.declared.held.Held.{Held}
+use Rattle.cb_handle.specs.Calling.{none_forgotten}
 use Rattle.cb_handle.specs.Frames.{frames_of}
 use Rattle.cb_handle_journal.specs.declared.fault.ResumeFault.{ResumeFault}
 use Rattle.cb_handle_journal.specs.declared.fault.ResumeFault.TheVariants.{NoHead, BadLine, BadLimit, TooLong, NotLegal, NoMemory}
 use Rattle.cb_handle_journal.specs.Faults.{fault_of_read, fault_of_replay}
-use Rattle.cb_handle_journal.specs.Resuming.{AreEvents, HasRoom, IsMemberOf, IsResumed, Misfits, RefusesEntries, RefusesToResume, SaysKept}
+use Rattle.cb_handle_journal.specs.Resuming.{AreEvents, HasRoom, IsMemberOf, IsResumed, Misfits, OfJournal, RefusesEntries, RefusesToResume, SaysKept}
 
 -- ---- the member
 
@@ -62,17 +64,21 @@ module _ (bytes : List ℕ) (limit : ℕ) (journal : Journal) (is : IsRead bytes
   room_for : HasRoom limit (length items) → HasRoom limit (length (entries_in journal))
   room_for room = subst (HasRoom limit) (sym (length-map items entry_fields)) room
 
-  pub misfit : (fault : ResumeFault) → Misfits limit (length items) fault → RefusesToResume bytes limit fault
-  misfit NoHead h = absurd h
-  misfit (BadLine line) h = absurd h
-  misfit BadLimit h = record { seat = seat_in journal.history; entries = entries_in journal; torn = is.torn; journal = is.is; holds = h }
-  misfit TooLong h = record {
-    seat = seat_in journal.history;
+  -- what is so of its entries and its member is so of the journal that the bytes are
+  of_journal : (Holds : Identity → List EntryFields → Type 0) → Holds (seat_in journal.history) (entries_in journal) → OfJournal bytes (λ spelling entries. Holds spelling.seat entries)
+  of_journal Holds h = record {
+    spelling = spelling_in journal;
     entries = entries_in journal;
     torn = is.torn;
     journal = is.is;
-    holds = (h.0, h.1, subst (λ (n : ℕ). limit < n) (sym (length-map items entry_fields)) h.2);
+    holds = subst (λ (s : Identity). Holds s (entries_in journal)) (sym is.seat_is) h;
   }
+
+  pub misfit : (fault : ResumeFault) → Misfits limit (length items) fault → RefusesToResume bytes limit fault
+  misfit NoHead h = absurd h
+  misfit (BadLine line) h = absurd h
+  misfit BadLimit h = of_journal (λ seat entries. Misfits limit (length entries) BadLimit) h
+  misfit TooLong h = of_journal (λ seat entries. Misfits limit (length entries) TooLong) (h.0, h.1, subst (λ (n : ℕ). limit < n) (sym (length-map items entry_fields)) h.2)
   misfit (NotLegal line) h = absurd h
   misfit NoMemory h = absurd h
 
@@ -81,29 +87,25 @@ module _ (bytes : List ℕ) (limit : ℕ) (journal : Journal) (is : IsRead bytes
   not_taken (BadLine line) room h = absurd h
   not_taken BadLimit room h = absurd h
   not_taken TooLong room h = absurd h
-  not_taken (NotLegal line) room h = record {
-    seat = seat_in journal.history;
-    entries = entries_in journal;
-    torn = is.torn;
-    journal = is.is;
-    holds = (room_for room, h);
-  }
+  not_taken (NotLegal line) room h = of_journal (λ seat entries. HasRoom limit (length entries) × RefusesEntries seat entries (NotLegal line)) (room_for room, h)
   not_taken NoMemory room h = tt
 
   pub is_back : (kept : Kept) (held : Held) → HasRoom limit (length items) → SaysKept (seat_in journal.history) limit (entries_in journal) (Ok kept) → held.kept ≡ kept
-      → frames_of held.frames ≡ [] → held.loaded ≡ [] → IsResumed bytes limit held journal.read
-  is_back kept held room says same none silent = record {
-    seat = seat_in journal.history;
+      → frames_of held.frames ≡ [] → held.loaded ≡ [] → held.form ≡ (spelling_in journal).form → held.forgotten ≡ none_forgotten limit → IsResumed bytes limit held journal.end.read
+  is_back kept held room says same none silent form forgotten = record {
+    spelling = spelling_in journal;
     entries = entries_in journal;
     torn = is.torn;
     journal = is.is;
     holds = record {
       room = room_for room;
-      legal = says.0;
-      member = subst (IsMemberOf (seat_in journal.history) limit (entries_in journal)) (sym same) says.1;
+      legal = subst (λ (s : Identity). AreEntriesOf s (entries_in journal)) (sym is.seat_is) says.0;
+      member = subst (λ (s : Identity). IsMemberOf s limit (entries_in journal) held.kept) (sym is.seat_is) (subst (IsMemberOf (seat_in journal.history) limit (entries_in journal)) (sym same) says.1);
+      form = form;
+      forgotten = forgotten;
       frames = none;
       loaded = silent;
-      read_is = is.read_is;
+      read_is = is.end_is.read_is;
     };
   }
 

@@ -12,6 +12,8 @@ use Rattle.cb_journal.specs.Journal.{IsJournal, journal_text}
 use Rattle.cb_journal.specs.Reading.{IsFirstBadLine}
 use Rattle.cb_replay.specs.Returning.{IsFirstNotAdded}
 use Rattle.cb_handle.specs.declared.held.Held.{Held}
+use Rattle.cb_journal.specs.declared.spelling.Spelling.{Spelling}
+use Rattle.cb_handle.specs.Calling.{none_forgotten}
 use Rattle.cb_handle.specs.Frames.{frames_of}
 use Rattle.cb_handle.specs.Opening.{IsLimit}
 use Rattle.cb_handle_journal.specs.declared.fault.ResumeFault.{ResumeFault}
@@ -20,12 +22,12 @@ use Rattle.cb_handle_journal.specs.declared.resuming.Resumed.{Resumed}
 use Rattle.cb_handle_journal.specs.Faults.{line_of_entry}
 
 -- the bytes are a journal, behind which a torn line may stand, and of its member and its entries this is so
-pub record OfJournal (bytes : List ℕ) (Holds : Identity → List EntryFields → Type 0) : Type 0 where
-  pub seat : Identity
+pub record OfJournal (bytes : List ℕ) (Holds : Spelling → List EntryFields → Type 0) : Type 0 where
+  pub spelling : Spelling
   pub entries : List EntryFields
   pub torn : List ℕ
-  pub journal : IsJournal bytes seat entries torn
-  pub holds : Holds seat entries
+  pub journal : IsJournal bytes spelling entries torn
+  pub holds : Holds spelling entries
 
 -- a history of this limit has room for so many entries; one that is not kept always has
 pub record HasRoom (limit count : ℕ) : Type 0 where
@@ -44,14 +46,17 @@ pub record IsMemberOf (seat : Identity) (limit : ℕ) (entries : List EntryField
   pub entries_are : entries_of kept ≡ entries
   pub events_are : AreEvents seat entries (events_of kept)
 
--- the entries are the member's own, it has done them, and nothing is to be sent or loaded; so long are the lines that tell it
-pub record IsBack (limit : ℕ) (held : Held) (read : ℕ) (seat : Identity) (entries : List EntryFields) : Type 0 where
+-- the entries are the member's own, it has done them, and nothing is to be sent or loaded; so long are the lines that tell it, and the next
+-- ones are of the same form
+pub record IsBack (limit : ℕ) (held : Held) (read : ℕ) (spelling : Spelling) (entries : List EntryFields) : Type 0 where
   pub room : HasRoom limit (length entries)
-  pub legal : AreEntriesOf seat entries
-  pub member : IsMemberOf seat limit entries held.kept
+  pub legal : AreEntriesOf spelling.seat entries
+  pub member : IsMemberOf spelling.seat limit entries held.kept
+  pub form : held.form ≡ spelling.form
+  pub forgotten : held.forgotten ≡ none_forgotten limit
   pub frames : frames_of held.frames ≡ []
   pub loaded : held.loaded ≡ []
-  pub read_is : read ≡ length (journal_text seat entries)
+  pub read_is : read ≡ length (journal_text spelling entries)
 
 -- the member whose journal the bytes are, and how many of them the whole lines are
 abbrev pub IsResumed : List ℕ → ℕ → Held → ℕ → Type 0
@@ -83,9 +88,9 @@ RefusesEntries seat entries NoMemory = Unit {0}
 abbrev pub RefusesToResume : List ℕ → ℕ → ResumeFault → Type 0
 RefusesToResume bytes limit NoHead = ¬ Contains bytes line_feed
 RefusesToResume bytes limit (BadLine line) = IsFirstBadLine bytes line
-RefusesToResume bytes limit BadLimit = OfJournal bytes (λ seat entries. Misfits limit (length entries) BadLimit)
-RefusesToResume bytes limit TooLong = OfJournal bytes (λ seat entries. Misfits limit (length entries) TooLong)
-RefusesToResume bytes limit (NotLegal line) = OfJournal bytes (λ seat entries. HasRoom limit (length entries) × RefusesEntries seat entries (NotLegal line))
+RefusesToResume bytes limit BadLimit = OfJournal bytes (λ spelling entries. Misfits limit (length entries) BadLimit)
+RefusesToResume bytes limit TooLong = OfJournal bytes (λ spelling entries. Misfits limit (length entries) TooLong)
+RefusesToResume bytes limit (NotLegal line) = OfJournal bytes (λ spelling entries. HasRoom limit (length entries) × RefusesEntries spelling.seat entries (NotLegal line))
 RefusesToResume bytes limit NoMemory = Unit {0}
 
 -- ---- what is answered

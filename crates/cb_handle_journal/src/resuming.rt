@@ -39,12 +39,12 @@ pub fn resume(alloc: Global, bytes: &[u8], history_max: usize) -> Result<Resumed
 fn resumed_by(alloc: Global, journal: Journal, history_max: usize) -> Result<Resumed, ResumeFault>
     ensures { (bytes : List ℕ) → IsRead bytes journal → SaysResumed bytes history_max result }
 {
-    let Journal { history, read, .. } = journal;
+    let Journal { history, end, .. } = journal;
     judge(history.entries.len(), history_max)?;
     match kept_by(alloc, history, history_max) {
         Ok(kept) => Ok(Resumed {
-            held: Held::of(alloc, kept),
-            read,
+            held: Held::of(alloc, kept, end.next.spelling.form, history_max),
+            read: end.read,
         }),
         Err(fault) => Err(fault),
     }

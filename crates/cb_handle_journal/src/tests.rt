@@ -7,15 +7,15 @@ use std::alloc::Global;
 use std::process::Abort;
 
 /// Member 1 of group 7 takes "hi" of member 0, answers "yo", casts "a" and "b" in one frame, and reports.
-const WORKED: &str = "cbcast 1 group 7 size 3 window 4 member 1
-arrive 1107000100026869 0.1
-cast 1107010101000102796f
-cast 21070102000201610162
-tick 1207010200010003
+const WORKED: &str = "cbcast 1 group 7 size 3 window 4 member 1 d7b30c7ba9908154
+arrive 1107000100026869 0.1 dca6b8ca8e788eb9
+cast 1107010101000102796f 7544887d392a5da3
+cast 21070102000201610162 88c3f3f9cd4f2bfd
+tick 1207010200010003 dc98c05e28609e13
 ";
 
 /// How many bytes its first lines have: the head alone, and with each entry more.
-const LINES: [usize; 5] = [42, 70, 96, 122, 144];
+const LINES: [usize; 5] = [59, 104, 147, 190, 229];
 
 const HI: &[u8] = b"\x11\x07\x00\x01\x00\x02hi";
 
@@ -41,7 +41,7 @@ fn does(rt: &impl Abort, alloc: Global, held: &mut Held, call: usize) {
 
 /// The journal of all its entries, by the lines that it tells.
 fn told(rt: &impl Abort, alloc: Global, held: &Held) -> Vec<u8> {
-    let (mut text, mut line) = (Vec::new(alloc), [0; 80]);
+    let (mut text, mut line) = (Vec::new(alloc), [0; 100]);
     let length = journal_head(alloc, held, &mut line).expect(rt, "memory");
     add(rt, &mut text, &line, length);
     for index in 0..held.counts().entries {
@@ -82,6 +82,56 @@ fn a_member_tells_the_lines_that_a_writer_writes(rt: HostRuntime) {
     drop(told);
     drop(written);
     assert_eq!(&rt; (is_worked, is_same), (true, true));
+}
+
+/// The line of the first entry that can be read.
+fn first_line(rt: &impl Abort, alloc: Global, held: &Held) -> Vec<u8> {
+    let (mut text, mut line) = (Vec::new(alloc), [0; 100]);
+    let length = journal_line(alloc, held, 0, &mut line).expect(rt, "it is told");
+    add(rt, &mut text, &line, length);
+    text
+}
+
+/// Each call leaves one entry to be read, whose line is asked for twice.
+#[test]
+fn without_a_history_each_line_stands_at_its_place(rt: HostRuntime) {
+    let alloc = rt.alloc();
+    let mut held = member(&rt, alloc, 0, 0);
+    let mut text = told(&rt, alloc, &held);
+    for call in 0..4 {
+        does(&rt, alloc, &mut held, call);
+        let (line, again) = (first_line(&rt, alloc, &held), first_line(&rt, alloc, &held));
+        let is_same = line == again;
+        drop(again);
+        text.extend_from_slice(&line).expect(&rt, "memory");
+        drop(line);
+        assert!(&rt; is_same);
+    }
+    drop(held);
+    let is_worked = text.as_slice() == WORKED.as_bytes();
+    drop(text);
+    assert!(&rt; is_worked);
+}
+
+/// The worked journal as journals were once, without its last line.
+const PLAIN: &str = "cbcast 1 group 7 size 3 window 4 member 1
+arrive 1107000100026869 0.1
+cast 1107010101000102796f
+cast 21070102000201610162
+";
+
+#[test]
+fn a_journal_without_checks_goes_on_without(rt: HostRuntime) {
+    let alloc = rt.alloc();
+    let resumed = resume(alloc, PLAIN.as_bytes(), 0).expect(&rt, "it comes back");
+    let Resumed { mut held, read: _ } = resumed;
+    let is_told = told(&rt, alloc, &held).as_slice() == PLAIN.as_bytes();
+    does(&rt, alloc, &mut held, 3);
+    let line = first_line(&rt, alloc, &held);
+    drop(held);
+    let is_plain = line.as_slice() == b"tick 1207010200010003\n".as_slice();
+    drop(line);
+    assert_eq!(&rt; (is_told, is_plain), (true, true));
 }
 
 /// A member comes back by the first so many bytes of the worked journal.
@@ -233,6 +283,6 @@ fn a_line_is_shown_as_far_as_it_fits(rt: HostRuntime) {
         journal_line(alloc, &held, 2, &mut none),
     );
     drop(held);
-    assert_eq!(&rt; lengths, (Ok(42), Ok(26), Err(LineRefusal::NoneThere)));
+    assert_eq!(&rt; lengths, (Ok(59), Ok(43), Err(LineRefusal::NoneThere)));
     assert_eq!(&rt; (head, line, none), (*b"cbcast", *b"cast 11", [9; 3]));
 }

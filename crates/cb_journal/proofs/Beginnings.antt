@@ -3,17 +3,18 @@ use Rattle.std.proofs.Common.{◌≡◌, ℕ, zero, suc, ◌+◌, ◌≤◌, ◌
 use Rattle.std.specs.Prelude.{◌==◌, false}
 use Rattle.std.specs.List.{AllByRecursion}
 use Rattle.std.proofs.Math.Seq.{take-append-add}
-use Rattle.std.proofs.lemmas.List.{take-append-le, take-append-drop, take-map, length-map}
-use Rattle.cb_history.specs.Group.{Identity}
+use Rattle.std.proofs.lemmas.List.{take-append-le, take-append-drop}
 use Rattle.cb_history.specs.Facts.{EntryFields}
 use Rattle.cb_history.specs.Legal.{IsLegal}
 use Rattle.cb_history.proofs.Prefixes.{prefix_is_legal}
-use Rattle.cb_lines.specs.Text.{entry_line, text_of_lines}
+use Rattle.cb_lines.specs.Text.{text_of_lines}
 use Rattle.cb_lines.specs.Bounds.{IsEntry}
 use Rattle.cb_lines.proofs.Lists.{Free}
 use Rattle.cb_lines.proofs.Lines.{no_lines, one_line}
-use Rattle.cb_journal.specs.Journal.{head_line, journal_lines, journal_text}
+use Rattle.cb_journal.specs.declared.spelling.Spelling.{Spelling}
+use Rattle.cb_journal.specs.Journal.{journal_head, journal_lines, journal_text}
 use Rattle.cb_journal.specs.Laws.{IsBeginning, CutsAreBeginnings, CrashesLeaveLegal}
+use Rattle.cb_journal.proofs.Entries.{first_lines_from, lines_length}
 use Rattle.cb_journal.proofs.Texts.{lines_are_free, none_from_free}
 use Rattle.cb_journal.proofs.Bounds.{legal_entries_have_lines}
 
@@ -106,8 +107,8 @@ are_cut [] k free = record {
 }
 are_cut (line ∷ lines) k free = first_cut line lines k free.0 (λ j. are_cut lines j free.1) (long_or_short k (length line))
 
-first_lines : (s : Identity) (es : List EntryFields) (n : ℕ) → take (suc n) (journal_lines s es) ≡ journal_lines s (take n es)
-first_lines s es n = ap (λ (ls : List (List ℕ)). head_line s ∷ ls) (take-map entry_line n es)
+first_lines : (s : Spelling) (es : List EntryFields) (n : ℕ) → take (suc n) (journal_lines s es) ≡ journal_lines s (take n es)
+first_lines s es n = ap (λ (ls : List (List ℕ)). journal_head s ∷ ls) (first_lines_from s 1 n es)
 
 pub cuts_are_beginnings : CutsAreBeginnings
 unfolding journal_text
@@ -124,13 +125,13 @@ cuts_are_beginnings s es k h behind_head = by c.count c.within c.parts c.whole
     by (suc n) within parts whole = record {
       count = n;
       torn = c.torn;
-      within = omega (arith, within, length-map es entry_line);
+      within = omega (arith, within, lines_length s 1 es);
       journal = record {
         have_lines = record { seat_is = h.seat_is; each = all_of_front IsEntry n es h.each };
         parts = parts ∙ ap (λ (ls : List (List ℕ)). text_of_lines ls ++ c.torn) (first_lines s es n);
         torn_is = none_from_free c.torn c.free;
       };
-      whole = λ m in_it short. let there = whole (suc m) (omega (arith, in_it, length-map es entry_line)) (subst (λ (ls : List (List ℕ)). length (text_of_lines ls) ≤ k) (sym (first_lines s es m)) short) in omega (arith, there);
+      whole = λ m in_it short. let there = whole (suc m) (omega (arith, in_it, lines_length s 1 es)) (subst (λ (ls : List (List ℕ)). length (text_of_lines ls) ≤ k) (sym (first_lines s es m)) short) in omega (arith, there);
     }
 
 pub crashes_leave_legal : CrashesLeaveLegal
@@ -138,5 +139,5 @@ crashes_leave_legal s es k legal behind_head =
     let b = cuts_are_beginnings s es k (legal_entries_have_lines s es legal) behind_head in
     record {
       beginning = b;
-      legal = prefix_is_legal s (take b.count es) (drop b.count es) (subst (IsLegal s) (sym (take-append-drop b.count es)) legal);
+      legal = prefix_is_legal s.seat (take b.count es) (drop b.count es) (subst (IsLegal s.seat) (sym (take-append-drop b.count es)) legal);
     }

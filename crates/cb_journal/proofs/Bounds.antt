@@ -76,7 +76,7 @@ each_from s before (e ∷ es) legal texts bytes =
     (one s before e (prefix_is_legal s (before ++ e ∷ []) es all) texts.0 bytes.0, each_from s (before ++ e ∷ []) es all texts.1 bytes.1)
 
 pub legal_entries_have_lines : LegalEntriesHaveLines
-legal_entries_have_lines s es legal = record {
+legal_entries_have_lines sp es legal = record {
   seat_is = record { group = legal.group; member = legal.member };
-  each = each_from s [] es legal (entries_say_their_texts s es legal) (legal_entries_are_bytes s es legal);
+  each = each_from sp.seat [] es legal (entries_say_their_texts sp.seat es legal) (legal_entries_are_bytes sp.seat es legal);
 }

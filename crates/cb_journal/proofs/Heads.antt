@@ -1,15 +1,21 @@
 -- The head line: what it is cut into, that it has no line feed, and that it is of one member.
-use Rattle.std.proofs.Common.{◌≡◌, ℕ, ◌<◌, ◌^◌, List, [], ◌∷◌, ◌++◌, refl, sym, ap, ◌∙◌, arith, append_assoc}
+use Rattle.std.proofs.Common.{◌≡◌, ℕ, ◌+◌, ◌<◌, ◌≤◌, ◌^◌, List, [], ◌∷◌, ◌++◌, length, refl, sym, ap, ◌∙◌, arith, append_assoc, length-append}
 use Rattle.std.specs.Prelude.{◌==◌, codes}
 use Rattle.std.specs.List.{slice_split, join_with_byte}
 use Rattle.std.specs.Fmt.{decimal}
+use Rattle.std.proofs.lemmas.Fmt.{length-decimal-le, decimal_nonempty}
 use Rattle.cb_history.specs.Group.{Parameters, Identity, IsIdentity}
 use Rattle.cb_lines.specs.Text.{line_of, space, group_words, group_line}
 use Rattle.cb_lines.proofs.Digits.{Above, one_number}
 use Rattle.cb_lines.proofs.Cut.{AreWords, words_are_cut, literal, number, group_words_are, same_parameters}
 use Rattle.cb_lines.proofs.Lists.{Free, all_append}
 use Rattle.cb_lines.proofs.Lines.{line_is_free}
-use Rattle.cb_journal.specs.Journal.{head_words, head_line}
+use Rattle.cb_journal.specs.Check.{checked_line}
+use Rattle.cb_journal.specs.Journal.{head_words, head_line, head_in, journal_head}
+use Rattle.cb_journal.specs.declared.spelling.Form.{Form}
+use Rattle.cb_journal.specs.declared.spelling.Form.TheVariants.{Plain, Checked}
+use Rattle.cb_journal.specs.declared.spelling.Spelling.{Spelling}
+use Rattle.cb_journal.proofs.Checks.{checked_is_free, checked_length, one_checked}
 
 pub fits : (s : Identity) → IsIdentity s → s.me < 2 ^ 32
 fits s is = omega (arith, is.member, is.group.size.at_most_sixty_four)
@@ -65,3 +71,55 @@ pub one_head : (a b : Identity) → IsIdentity a → IsIdentity b → head_line 
 one_head a b p q e =
     let words : head_words a ≡ head_words b = sym (head_line_is_cut a (head_line a) p refl) ∙ head_line_is_cut b (head_line a) q e in
     one_seat a b p q (cc words) (cc words) (cc words) (cc words)
+
+-- ---- in each form
+
+-- how long a head without a check is, of which the one with a check is longer
+pub head_length : (s : Identity) → IsIdentity s → (41 ≤ length (head_line s)) × (length (head_line s) ≤ 54)
+unfolding head_line line_of
+head_length s is =
+    let number = length-decimal-le 10 s.group.number (omega arith) (omega (arith, is.group.number_fits)) (omega (arith, is.group.number_fits)) in
+    let size = length-decimal-le 2 s.group.size (omega arith) (omega (arith, is.group.size.at_most_sixty_four)) (omega (arith, is.group.size.at_most_sixty_four)) in
+    let window = length-decimal-le 3 s.group.window (omega arith) (omega (arith, is.group.width.at_most_widest)) (omega (arith, is.group.width.at_most_widest)) in
+    let me = length-decimal-le 2 s.me (omega arith) (omega (arith, is.member, is.group.size.at_most_sixty_four)) (omega (arith, is.member, is.group.size.at_most_sixty_four)) in
+    let some_number = decimal_nonempty s.group.number (omega (arith, is.group.number_fits)) in
+    let some_size = decimal_nonempty s.group.size (omega (arith, is.group.size.at_most_sixty_four)) in
+    let some_window = decimal_nonempty s.group.window (omega (arith, is.group.width.at_most_widest)) in
+    let some_me = decimal_nonempty s.me (omega (arith, is.member, is.group.size.at_most_sixty_four)) in
+    let all : length (join_with_byte space (head_words s)) ≡ 37 + length (decimal s.group.number) + length (decimal s.group.size) + length (decimal s.group.window) + length (decimal s.me) = lengths (decimal s.group.number) (decimal s.group.size) (decimal s.group.window) (decimal s.me) in
+    (omega (arith, all, some_number, some_size, some_window, some_me), omega (arith, all, number, size, window, me))
+  where
+    lengths : (a b c d : List ℕ) → length (join_with_byte space (codes "cbcast" ∷ codes "1" ∷ codes "group" ∷ a ∷ codes "size" ∷ b ∷ codes "window" ∷ c ∷ codes "member" ∷ d ∷ [])) ≡ 37 + length a + length b + length c + length d
+    lengths a b c d = grind (arith, length-append)
+
+-- no head without a check is as long as one with a check
+pub not_both : (a b : Identity) → IsIdentity a → IsIdentity b → ¬ (head_line a ≡ checked_line 0 (head_line b))
+not_both a b p q e =
+    let short = (head_length a p).1 in
+    let long = (head_length b q).0 in
+    let size = ap length e ∙ checked_length 0 (head_line b) in
+    omega (arith, short, long, size)
+
+head_in_is_free : (f : Form) (s : Identity) → IsIdentity s → Free (head_in f s)
+head_in_is_free Plain s is = head_is_free s is
+head_in_is_free Checked s is = checked_is_free 0 (head_line s) (head_is_free s is)
+
+pub journal_head_is_free : (sp : Spelling) → IsIdentity sp.seat → Free (journal_head sp)
+unfolding journal_head
+journal_head_is_free sp is = head_in_is_free sp.form sp.seat is
+
+one_in : (f g : Form) (a b : Identity) → IsIdentity a → IsIdentity b → head_in f a ≡ head_in g b → (f ≡ g) × (a ≡ b)
+one_in Plain Plain a b p q e = (refl, one_head a b p q e)
+one_in Plain Checked a b p q e = absurd (not_both a b p q e)
+one_in Checked Plain a b p q e = absurd (not_both b a q p (sym e))
+one_in Checked Checked a b p q e = (refl, one_head a b p q (one_checked 0 0 (head_line a) (head_line b) (omega arith) (omega arith) e).0)
+
+pub same_spelling : (a b : Spelling) → a.form ≡ b.form → a.seat ≡ b.seat → a ≡ b
+same_spelling a b form seat = ap (λ (f : Form). spelled f a.seat) form ∙ ap (λ (s : Identity). spelled b.form s) seat
+  where
+    spelled : Form → Identity → Spelling
+    spelled f s = record { form = f; seat = s }
+
+pub one_journal_head : (a b : Spelling) → IsIdentity a.seat → IsIdentity b.seat → journal_head a ≡ journal_head b → a ≡ b
+unfolding journal_head
+one_journal_head a b p q e = let one = one_in a.form b.form a.seat b.seat p q e in same_spelling a b one.0 one.1

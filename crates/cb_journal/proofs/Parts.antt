@@ -1,13 +1,14 @@
 -- What was written, in parts.
-use Rattle.std.proofs.Common.{◌≡◌, ℕ, List, [], ◌∷◌, ◌++◌, length, take, drop, sym, ap, subst, ◌∙◌, arith, append_assoc}
+use Rattle.std.proofs.Common.{◌≡◌, ℕ, ◌+◌, ◌%◌, ◌^◌, List, [], ◌∷◌, ◌++◌, length, take, drop, refl, sym, ap, subst, ◌∙◌, arith, append_assoc}
 use Rattle.std.specs.Prelude.{Option, Some, None, Result, Ok, Err, IfErr}
 use Rattle.std.specs.Io.KnownBytes.{Appends, Keeps}
-use Rattle.std.proofs.lemmas.List.{append-nil, map-append, take-append-drop}
-use Rattle.cb_history.specs.Group.{Identity}
+use Rattle.std.proofs.lemmas.List.{append-nil, take-append-drop}
 use Rattle.cb_history.specs.Facts.{EntryFields}
-use Rattle.cb_lines.specs.Text.{entry_line, text_of_lines, with_line_feed}
+use Rattle.cb_lines.specs.Text.{text_of_lines, with_line_feed}
 use Rattle.cb_lines.proofs.Lines.{no_lines, one_line, line_more}
-use Rattle.cb_journal.specs.Journal.{head_line, journal_lines, journal_text}
+use Rattle.cb_journal.specs.declared.spelling.Spelling.{Spelling}
+use Rattle.cb_journal.specs.Journal.{journal_head, journal_lines, journal_text, line_at, lines_from}
+use Rattle.cb_journal.proofs.Entries.{line_again, one_more}
 use Rattle.cb_journal.specs.declared.fault.AppendFault.{AppendFault}
 use Rattle.cb_journal.specs.declared.fault.AppendFault.TheVariants as appends
 use Rattle.cb_journal.specs.Writing.{DeviceRefuses, IsOfSync, KeepsFront, WritesPart}
@@ -78,15 +79,22 @@ begun (Some old) None after bytes line is kept added = absurd kept
 begun (Some old) (Some now) None bytes line is kept added = absurd added
 begun (Some old) (Some now) (Some after) bytes line is kept added = ap Some (added ∙ ap (λ (t : List ℕ). t ++ line) kept)
 
-pub head_text : (s : Identity) → journal_text s [] ≡ head_line s ++ 10 ∷ []
+pub head_text : (sp : Spelling) → journal_text sp [] ≡ journal_head sp ++ 10 ∷ []
 unfolding journal_text
-head_text s = one_line (head_line s) [] ∙ ap (λ (t : List ℕ). head_line s ++ 10 ∷ t) no_lines
+head_text sp = one_line (journal_head sp) [] ∙ ap (λ (t : List ℕ). journal_head sp ++ 10 ∷ t) no_lines
 
 -- ---- one line more
 
-pub grown : (before now : Option (List ℕ)) (s : Identity) (es : List EntryFields) (e : EntryFields) → before ≡ Some (journal_text s es) → Appends before now (with_line_feed (entry_line e)) → now ≡ Some (journal_text s (es ++ e ∷ []))
+pub grown : (before now : Option (List ℕ)) (sp : Spelling) (es : List EntryFields) (n : ℕ) (e : EntryFields) → before ≡ Some (journal_text sp es) → n ≡ (length es + 1) % 2 ^ 64 → Appends before now (with_line_feed (line_at sp n e)) → now ≡ Some (journal_text sp (es ++ e ∷ []))
 unfolding journal_text
-grown None now s es e is added = absurd (cc is)
-grown (Some old) None s es e is added = absurd added
-grown (Some old) (Some now) s es e is added =
-    ap Some (added ∙ ap (λ (t : List ℕ). t ++ with_line_feed (entry_line e)) (cc is) ∙ line_more (journal_lines s es) (entry_line e) [] ∙ append-nil _ ∙ ap (λ (ls : List (List ℕ)). text_of_lines (head_line s ∷ ls)) (sym (map-append entry_line es (e ∷ []))))
+grown None now sp es n e is place added = absurd (cc is)
+grown (Some old) None sp es n e is place added = absurd added
+grown (Some old) (Some now) sp es n e is place added =
+    let line : line_at sp n e ≡ line_at sp (length es + 1) e = ap (λ (k : ℕ). line_at sp k e) place ∙ line_again sp (length es + 1) e in
+    ap Some (
+    added
+    ∙ ap (λ (t : List ℕ). t ++ with_line_feed (line_at sp n e)) (cc is)
+    ∙ line_more (journal_lines sp es) (line_at sp n e) []
+    ∙ append-nil _
+    ∙ ap (λ (l : List ℕ). text_of_lines (journal_head sp ∷ (lines_from sp 1 es ++ l ∷ []))) line
+    ∙ ap (λ (ls : List (List ℕ)). text_of_lines (journal_head sp ∷ ls)) (sym (one_more sp es e (length es + 1) refl)))

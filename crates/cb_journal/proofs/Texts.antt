@@ -1,21 +1,20 @@
 -- A text is whole lines and a torn one in one way.
-use Rattle.std.proofs.Common.{◌≡◌, ℕ, zero, suc, List, [], ◌∷◌, ◌++◌, map, refl, sym, ap, subst, ◌∙◌, arith, append_assoc}
+use Rattle.std.proofs.Common.{◌≡◌, ℕ, zero, suc, List, [], ◌∷◌, ◌++◌, refl, sym, ap, subst, ◌∙◌, arith, append_assoc}
 use Rattle.std.specs.List.{AllByRecursion, Contains}
 use Rattle.std.proofs.lemmas.List.{append-nil}
 use Rattle.std.proofs.lemmas.Bool.Decides.{nat_tests}
-use Rattle.cb_history.specs.Group.{Identity}
 use Rattle.cb_history.specs.Facts.{EntryFields}
-use Rattle.cb_lines.specs.Text.{entry_line, text_of_lines}
-use Rattle.cb_lines.specs.Bounds.{IsEntry}
+use Rattle.cb_lines.specs.Text.{text_of_lines}
 use Rattle.cb_lines.proofs.Lists.{Free, one_feed, has_feed}
-use Rattle.cb_lines.proofs.Lines.{entries_are_free, no_lines, one_line}
-use Rattle.cb_lines.proofs.OneLine.{one_entry}
-use Rattle.cb_journal.specs.Journal.{journal_lines, journal_text, HaveLines}
+use Rattle.cb_lines.proofs.Lines.{no_lines, one_line}
+use Rattle.cb_journal.specs.Journal.{journal_lines, journal_text, lines_from, HaveLines}
 use Rattle.cb_journal.specs.Laws.{OneJournal}
-use Rattle.cb_journal.proofs.Heads.{head_is_free, one_head}
+use Rattle.cb_journal.specs.declared.spelling.Spelling.{Spelling}
+use Rattle.cb_journal.proofs.Heads.{journal_head_is_free, one_journal_head}
+use Rattle.cb_journal.proofs.Entries.{lines_are_free_from, one_list}
 
-pub lines_are_free : (s : Identity) (es : List EntryFields) → HaveLines s es → AllByRecursion Free (journal_lines s es)
-lines_are_free s es h = (head_is_free s h.seat_is, entries_are_free es h.each)
+pub lines_are_free : (sp : Spelling) (es : List EntryFields) → HaveLines sp es → AllByRecursion Free (journal_lines sp es)
+lines_are_free sp es h = (journal_head_is_free sp h.seat_is, lines_are_free_from sp 1 es h.each)
 
 pub none_from_free : (line : List ℕ) → Free line → ¬ Contains line 10
 none_from_free [] free c = omega (arith, c.1)
@@ -41,21 +40,18 @@ ahead (x ∷ good) (y ∷ lines) rest torn f g none e =
     let behind = ahead good lines rest torn f.1 g.1 none one.1 in
     record { more = behind.more; are = ap (λ (l : List ℕ). l ∷ lines) one.0 ∙ ap (λ (ls : List (List ℕ)). x ∷ ls) behind.are; rest_is = behind.rest_is }
 
--- entries whose lines are the same are the same
-one_list : (a b : List EntryFields) → AllByRecursion IsEntry a → AllByRecursion IsEntry b → map entry_line a ≡ map entry_line b → a ≡ b
-one_list [] [] p q e = refl
-one_list [] (n ∷ b) p q e = absurd (cc e)
-one_list (m ∷ a) [] p q e = absurd (cc e)
-one_list (m ∷ a) (n ∷ b) p q e =
-    let first = one_entry m n p.0 q.0 (cc e) in
-    let rest = one_list a b p.1 q.1 (cc e) in
-    cc (first, rest)
-
 no_more : (more : List (List ℕ)) (s t : List ℕ) → ¬ Contains t 10 → t ≡ text_of_lines more ++ s → (more ≡ []) × (s ≡ t)
 no_more [] s t none e = (refl, sym (e ∙ ap (λ (l : List ℕ). l ++ s) no_lines))
 no_more (m ∷ more) s t none e =
     let t_is : t ≡ m ++ 10 ∷ (text_of_lines more ++ s) = e ∙ ap (λ (l : List ℕ). l ++ s) (one_line m more) ∙ append_assoc m (10 ∷ text_of_lines more) s in
     absurd (none (subst (λ (l : List ℕ). Contains l 10) (sym t_is) (has_feed m (text_of_lines more ++ s))))
+
+-- the two spellings are one, so are the entries
+one_of_lines : (a b : Spelling) (es fs : List EntryFields) → HaveLines a es → HaveLines b fs → journal_lines a es ≡ journal_lines b fs → (a ≡ b) × (es ≡ fs)
+one_of_lines a b es fs p q lines = by (one_journal_head a b p.seat_is q.seat_is (cc lines))
+  where
+    by : a ≡ b → (a ≡ b) × (es ≡ fs)
+    by same = (same, one_list b 1 es fs p.each q.each (ap (λ (sp : Spelling). lines_from sp 1 es) (sym same) ∙ cc lines))
 
 pub one_journal : OneJournal
 unfolding journal_text
@@ -63,4 +59,5 @@ one_journal text a b es fs s t p q =
     let front = ahead (journal_lines b fs) (journal_lines a es) t s (lines_are_free b fs q.have_lines) (lines_are_free a es p.have_lines) p.torn_is (sym p.parts ∙ q.parts) in
     let none = no_more front.more s t q.torn_is front.rest_is in
     let lines : journal_lines a es ≡ journal_lines b fs = front.are ∙ ap (λ (m : List (List ℕ)). journal_lines b fs ++ m) none.0 ∙ append-nil (journal_lines b fs) in
-    (one_head a b p.have_lines.seat_is q.have_lines.seat_is (cc lines), one_list es fs p.have_lines.each q.have_lines.each (cc lines), none.1)
+    let one = one_of_lines a b es fs p.have_lines q.have_lines lines in
+    (one.0, one.1, none.1)

@@ -1,3 +1,4 @@
+pub mod Check
 pub mod Journal
 pub mod Reading
 pub mod Laws

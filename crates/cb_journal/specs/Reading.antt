@@ -1,7 +1,6 @@
 -- What is answered for the bytes of a journal.
-use Rattle.std.specs.Prelude.{◌≡◌, ℕ, ◌+◌, List, [], ◌∷◌, ◌++◌, length, map, Result, Ok, Err}
+use Rattle.std.specs.Prelude.{◌≡◌, ℕ, ◌+◌, ◌%◌, ◌^◌, List, [], ◌∷◌, ◌++◌, length, map, Result, Ok, Err}
 use Rattle.std.specs.List.{Contains}
-use Rattle.cb_history.specs.Group.{Identity}
 use Rattle.cb_history.specs.Facts.{EntryFields, entry_fields}
 use Rattle.cb_history.specs.LegalHistory.{seat_in}
 use Rattle.cb_lines.specs.Text.{text_of_lines, line_feed, IsCut}
@@ -9,23 +8,39 @@ use Rattle.cb_lines.specs.declared.fault.LineFault.{LineFault}
 use Rattle.cb_lines.specs.declared.fault.LineFault.TheVariants as lines
 use Rattle.cb_journal.specs.declared.fault.ReadFault.{ReadFault}
 use Rattle.cb_journal.specs.declared.fault.ReadFault.TheVariants.{NoHead, BadLine, NoMemory}
+use Rattle.cb_journal.specs.declared.reading.End.{End}
 use Rattle.cb_journal.specs.declared.reading.Journal.{Journal}
+use Rattle.cb_journal.specs.declared.spelling.Place.{Place}
+use Rattle.cb_journal.specs.declared.spelling.Spelling.{Spelling}
 use Rattle.cb_journal.specs.Journal.{journal_lines, journal_text, HaveLines, IsJournal}
 
 abbrev pub entries_in : Journal → List EntryFields
 entries_in journal = map entry_fields journal.history.entries.items
 
--- the text is this journal's, and so long are its whole lines and what stands behind them
+abbrev pub spelling_in : Journal → Spelling
+spelling_in journal = journal.end.next.spelling
+
+-- the place of the line after that many entries
+abbrev pub place_behind : Spelling → ℕ → Place
+place_behind spelling count = record { spelling = spelling; number = (count + 1) % 2 ^ 64 }
+
+-- where the text of these entries ends
+pub record IsEnd (spelling : Spelling) (entries : List EntryFields) (end : End) : Type 0 where
+  pub next_is : end.next ≡ place_behind spelling (length entries)
+  pub read_is : end.read ≡ length (journal_text spelling entries)
+
+-- the text is this journal's, its whole lines end there, and so long is what stands behind them
 pub record IsRead (text : List ℕ) (journal : Journal) : Type 0 where
   pub torn : List ℕ
-  pub is : IsJournal text (seat_in journal.history) (entries_in journal) torn
-  pub read_is : journal.read ≡ length (journal_text (seat_in journal.history) (entries_in journal))
+  pub is : IsJournal text (spelling_in journal) (entries_in journal) torn
+  pub seat_is : (spelling_in journal).seat ≡ seat_in journal.history
+  pub end_is : IsEnd (spelling_in journal) (entries_in journal) journal.end
   pub torn_is : journal.torn ≡ length torn
 
 -- some journal begins with these lines
 abbrev pub Begins : List (List ℕ) → Type 0
-Begins lines = (seat : Identity) × (entries : List EntryFields) × (more : List (List ℕ))
-    × HaveLines seat entries × (journal_lines seat entries ≡ lines ++ more)
+Begins lines = (spelling : Spelling) × (entries : List EntryFields) × (more : List (List ℕ))
+    × HaveLines spelling entries × (journal_lines spelling entries ≡ lines ++ more)
 
 -- The line of this number is whole, and the first that is not what must stand there: a journal begins with the lines before it, and none
 -- goes on with this one.
@@ -48,27 +63,34 @@ Reads text (Err NoHead) = ¬ Contains text line_feed
 Reads text (Err (BadLine number)) = IsFirstBadLine text number
 Reads text (Err NoMemory) = Unit {0}
 
--- the member and its entries, with the lengths of their text and of what stands behind it
-pub record IsJournalOf (seat : Identity) (entries : List EntryFields) (torn : List ℕ) (journal : Journal) : Type 0 where
-  pub seat_is : seat_in journal.history ≡ seat
+-- the member and its entries, with where their text ends and the length of what stands behind it
+pub record IsJournalOf (spelling : Spelling) (entries : List EntryFields) (torn : List ℕ) (journal : Journal) : Type 0 where
+  pub seat_is : seat_in journal.history ≡ spelling.seat
   pub entries_are : entries_in journal ≡ entries
-  pub read_is : journal.read ≡ length (journal_text seat entries)
+  pub end_is : IsEnd spelling entries journal.end
   pub torn_is : journal.torn ≡ length torn
 
 -- these are answered, unless memory ran out
-abbrev pub Gives : Identity → List EntryFields → List ℕ → Result Journal ReadFault → Type 0
-Gives seat entries torn (Ok journal) = IsJournalOf seat entries torn journal
-Gives seat entries torn (Err NoHead) = ⊥
-Gives seat entries torn (Err (BadLine number)) = ⊥
-Gives seat entries torn (Err NoMemory) = Unit {0}
+abbrev pub Gives : Spelling → List EntryFields → List ℕ → Result Journal ReadFault → Type 0
+Gives spelling entries torn (Ok journal) = IsJournalOf spelling entries torn journal
+Gives spelling entries torn (Err NoHead) = ⊥
+Gives spelling entries torn (Err (BadLine number)) = ⊥
+Gives spelling entries torn (Err NoMemory) = Unit {0}
+
+-- it is refused by the number of this line, unless memory ran out
+abbrev pub Refuses : ℕ → Result Journal ReadFault → Type 0
+Refuses number (Ok journal) = ⊥
+Refuses number (Err NoHead) = ⊥
+Refuses number (Err (BadLine line)) = line ≡ number
+Refuses number (Err NoMemory) = Unit {0}
 
 -- the fault of a text in which this line has that fault
 abbrev pub fault_at : LineFault → ℕ → ReadFault
 fault_at lines.NoLine line = BadLine line
 fault_at lines.NoMemory line = NoMemory
 
--- The reader has come to this place of the text, and the next line has this number.
-pub record ReadTo (text rest : List ℕ) (seat : Identity) (entries : List EntryFields) (number : ℕ) : Type 0 where
-  pub parts : text ≡ journal_text seat entries ++ rest
-  pub have_lines : HaveLines seat entries
-  pub place : number ≡ length entries + 2
+-- The reader has come to this place of the text, and the next line is that of the entry of this number.
+pub record ReadTo (text rest : List ℕ) (spelling : Spelling) (entries : List EntryFields) (number : ℕ) : Type 0 where
+  pub parts : text ≡ journal_text spelling entries ++ rest
+  pub have_lines : HaveLines spelling entries
+  pub place : number ≡ length entries + 1

@@ -3,8 +3,7 @@
 ghost use Rattle.std.specs.Prelude.{◌≡◌, ◌∷◌, ◌++◌, [], List, IfErr, OnOk, Some};
 ghost use Rattle.cb_history.specs.Facts.{EntryFields, entry_fields};
 ghost use Rattle.cb_journal.specs.FaultText.{keep_fault_text};
-ghost use Rattle.cb_lines.specs.Text.{entry_line, with_line_feed};
-ghost use Rattle.cb_journal.specs.Writing.{HasJournal, keep_fault};
+ghost use Rattle.cb_journal.specs.Writing.{HasJournal, keep_fault, line_to_write};
 
 use crate::device::Device;
 use crate::fault::AppendFault;
@@ -76,19 +75,19 @@ impl<D: Device + Drop> Keeper for JournalWriter<D> {
     ghost use Rattle.cb_journal.specs.Refusing.{RefusesToKeep};
 
     ghost has = { λ w entries.
-        HasJournal (D.contents w.device) (D.lasting w.device) w.fault entries };
+        HasJournal (D.contents w.device) (D.lasting w.device) w.next w.fault entries };
 
     #[tactic(auto, using(crate::proofs::Refusals::not_kept))]
     fn keep(&mut self, entry: &Entry) -> Result<(), KeepFault>
         // Of a journal of some entries it becomes that of these and one more.
         ensures kept { OnOk result ((entries : List EntryFields)
-            → HasJournal (D.contents self.old.device) (D.lasting self.old.device) self.old.fault
-            entries
-            → HasJournal (D.contents self.new.device) (D.lasting self.new.device) self.new.fault
-            (entries ++ entry_fields entry.now ∷ [])) }
+            → HasJournal (D.contents self.old.device) (D.lasting self.old.device) self.old.next
+            self.old.fault entries
+            → HasJournal (D.contents self.new.device) (D.lasting self.new.device) self.new.next
+            self.new.fault (entries ++ entry_fields entry.now ∷ [])) }
         // For want of memory no byte was written; else the device refused the line.
         ensures refused { IfErr result (RefusesToKeep D.contents self.old self.new
-            (with_line_feed (entry_line (entry_fields entry.now)))) }
+            (line_to_write self.old.next (entry_fields entry.now))) }
     {
         self.append(entry)?;
         Ok(())

@@ -1,8 +1,8 @@
-//! What a crash leaves of a journal, as contracts of functions that do nothing.
+//! What a crash leaves of a journal, and how damage shows, as contracts of functions that do nothing.
 
-ghost use Rattle.cb_journal.specs.Laws.{OneJournal, CutsAreBeginnings, LegalEntriesHaveLines, CrashesLeaveLegal};
+ghost use Rattle.cb_journal.specs.Laws.{OneJournal, CutsAreBeginnings, LegalEntriesHaveLines, CrashesLeaveLegal, DamageIsFound, HeadDamageIsFound};
 
-/// No text is the journal of two members or of two lists of entries.
+/// No text is the journal of two members, of two lists of entries or of two forms.
 pub fn a_journal_is_read_in_one_way()
     ensures { OneJournal }
 {}
@@ -13,4 +13,11 @@ pub fn crashes_leave_beginnings()
     ensures cuts { CutsAreBeginnings }
     ensures lines { LegalEntriesHaveLines }
     ensures legal { CrashesLeaveLegal }
+{}
+
+/// In the form with checks a line that was changed in one byte, or that is at another place than its own, is the first bad line. Each flipped
+/// bit is found by that, and each line that was lost, repeated or exchanged if a whole line follows it.
+pub fn damage_is_found()
+    ensures lines { DamageIsFound }
+    ensures head { HeadDamageIsFound }
 {}

@@ -9,12 +9,14 @@
 //! Stands on `cb_history` for histories and on `cb_lines` for the lines, which are those of traces.
 #![tactic(auto)]
 
+mod check;
 mod device;
 mod fault;
 mod head;
 mod keeper;
 pub mod laws;
 mod reading;
+mod spelling;
 mod writing;
 
 pub use cb_history::{Entry, Group, History, Identity};
@@ -22,5 +24,6 @@ pub use device::Device;
 pub use fault::{AppendFault, ReadFault};
 pub use head::{head_of, put_head};
 pub use keeper::{KeepFault, Keeper, NoJournal};
-pub use reading::{Journal, read_journal};
+pub use reading::{End, Journal, read_journal};
+pub use spelling::{Form, Place, Spelling};
 pub use writing::JournalWriter;

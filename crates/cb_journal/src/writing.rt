@@ -2,20 +2,18 @@
 
 ghost use Rattle.std.specs.Prelude.{◌≡◌, ◌≤◌, ◌∷◌, ◌++◌, List, ℕ, [], Err, None, Some, IfOk, IfErr, IfSome, OnErr, OnOk, length, take};
 ghost use Rattle.std.specs.Io.KnownBytes.{Appends, Keeps};
-ghost use Rattle.cb_history.specs.Group.{Identity as IdentityOf};
 ghost use Rattle.cb_history.specs.Facts.{EntryFields, entry_fields};
-ghost use Rattle.cb_history.specs.LegalHistory.{seat_in};
-ghost use Rattle.cb_lines.specs.Text.{entry_line, with_line_feed};
 ghost use Rattle.cb_journal.specs.Journal.{journal_text};
-ghost use Rattle.cb_journal.specs.Reading.{IsRead, entries_in};
-ghost use Rattle.cb_journal.specs.Writing.{DeviceRefuses, HasJournal, IsOfSync, KeepsFront, WritesPart};
+ghost use Rattle.cb_journal.specs.Reading.{IsEnd, place_behind};
+ghost use Rattle.cb_journal.specs.Writing.{DeviceRefuses, HasJournal, IsOfSync, KeepsFront, WritesPart, line_to_write, next_place};
+ghost use Rattle.cb_journal.specs.declared.spelling.Form.TheVariants.{Checked};
+ghost use Rattle.cb_journal.specs.declared.spelling.Spelling.{Spelling as SpellingOf};
 
 use crate::device::Device;
 use crate::fault::AppendFault;
-use crate::head::put_head;
-use crate::reading::Journal;
+use crate::reading::End;
+use crate::spelling::{Place, Spelling};
 use cb_history::{Entry, Identity};
-use cb_lines::put_entry;
 use cb_times::NoMemory;
 use std::alloc::Global;
 use std::io;
@@ -28,6 +26,8 @@ use std::io::{ErrorKind, Write};
 #[derive(Drop)]
 pub struct JournalWriter<D> {
     device: D,
+    /// The place of the next line.
+    next: Place,
     /// The line that is written; its room is kept.
     line: Vec<u8>,
     /// The first fault.
@@ -39,49 +39,49 @@ impl<D: Device + Drop> JournalWriter<D> {
 
     /// Begins the journal of this member: all that the device holds is cut off, and the head line is written.
     pub fn begin(alloc: Global, device: D, seat: Identity) -> Result<JournalWriter<D>, AppendFault>
-        ensures text { (bytes : List ℕ) → D.contents device ≡ Some bytes → IfOk result (λ writer.
-            D.contents writer.device ≡ Some (journal_text seat [])) }
+        ensures next { IfOk result (λ writer. writer.next
+            ≡ place_behind (record { form = Checked; seat = seat }) 0) }
         ensures lasts { IfOk result (λ writer.
             Keeps (D.contents writer.device) (D.lasting writer.device)) }
         ensures sound { IfOk result (λ writer. writer.fault ≡ None) }
         // It has the journal of no entry, which lasts.
         ensures has { (bytes : List ℕ) → D.contents device ≡ Some bytes → IfOk result (λ writer.
-            HasJournal (D.contents writer.device) (D.lasting writer.device) writer.fault []) }
+            HasJournal (D.contents writer.device) (D.lasting writer.device) writer.next
+            writer.fault []) }
     {
         let mut device = device;
         let mut line = Vec::new(alloc);
-        put_head(&mut line, seat)?;
+        let spelling = Spelling::new(seat);
+        spelling.put_head(&mut line)?;
         line.push(b'\n')?;
         cut_to(&mut device, 0)?;
         put_line(&mut device, &line)?;
         Ok(JournalWriter {
             device,
+            next: Place::first(&spelling),
             line,
             fault: None,
         })
     }
 
-    /// Goes on with the journal that was read of this device: what stands behind its whole lines is cut off.
-    pub fn go_on(
-        alloc: Global,
-        device: D,
-        journal: &Journal,
-    ) -> Result<JournalWriter<D>, AppendFault>
-        ensures text { (bytes : List ℕ) → D.contents device ≡ Some bytes → IsRead bytes journal.now
-            → IfOk result (λ writer. D.contents writer.device
-            ≡ Some (journal_text (seat_in journal.now.history) (entries_in journal.now))) }
+    /// Goes on where the whole lines of the journal on this device end: what stands behind them is cut off.
+    pub fn go_on(alloc: Global, device: D, end: End) -> Result<JournalWriter<D>, AppendFault>
+        ensures next { IfOk result (λ writer. writer.next ≡ end.next) }
         ensures lasts { IfOk result (λ writer.
             Keeps (D.contents writer.device) (D.lasting writer.device)) }
         ensures sound { IfOk result (λ writer. writer.fault ≡ None) }
-        // It has the journal of the entries that were read, which lasts.
-        ensures has { (bytes : List ℕ) → D.contents device ≡ Some bytes → IsRead bytes journal.now
-            → IfOk result (λ writer. HasJournal (D.contents writer.device)
-            (D.lasting writer.device) writer.fault (entries_in journal.now)) }
+        // It has the journal of the entries that end there, which lasts.
+        ensures has { (spelling : SpellingOf) (entries : List EntryFields) (torn : List ℕ)
+            → D.contents device ≡ Some (journal_text spelling entries ++ torn)
+            → IsEnd spelling entries end → IfOk result (λ writer.
+            HasJournal (D.contents writer.device) (D.lasting writer.device) writer.next
+            writer.fault entries) }
     {
         let mut device = device;
-        cut_to(&mut device, journal.read as u64)?;
+        cut_to(&mut device, end.read as u64)?;
         Ok(JournalWriter {
             device,
+            next: end.next,
             line: Vec::new(alloc),
             fault: None,
         })
@@ -89,23 +89,24 @@ impl<D: Device + Drop> JournalWriter<D> {
 
     /// Writes the entry's line, and makes it outlast a crash.
     pub fn append(&mut self, entry: &Entry) -> Result<(), AppendFault>
-        // The journal of some entries becomes that of these and one more.
-        ensures text { (seat : IdentityOf) (entries : List EntryFields)
-            → D.contents self.old.device ≡ Some (journal_text seat entries)
-            → OnOk result (D.contents self.new.device
-            ≡ Some (journal_text seat (entries ++ entry_fields entry.now ∷ []))) }
         ensures ok { OnOk result (Appends (D.contents self.old.device) (D.contents self.new.device)
-            (with_line_feed (entry_line (entry_fields entry.now)))) }
+            (line_to_write self.old.next (entry_fields entry.now))) }
+        ensures next { OnOk result (self.new.next ≡ next_place self.old.next) }
         ensures lasts { OnOk result
             (Keeps (D.contents self.new.device) (D.lasting self.new.device)) }
         ensures sound { OnOk result ((self.old.fault ≡ None) × (self.new.fault ≡ None)) }
+        // The journal of some entries becomes that of these and one more.
+        ensures has { OnOk result ((entries : List EntryFields)
+            → HasJournal (D.contents self.old.device) (D.lasting self.old.device) self.old.next
+            self.old.fault entries
+            → HasJournal (D.contents self.new.device) (D.lasting self.new.device) self.new.next
+            self.new.fault (entries ++ entry_fields entry.now ∷ [])) }
         ensures err { OnErr result (WritesPart (D.contents self.old.device)
-            (D.contents self.new.device)
-            (with_line_feed (entry_line (entry_fields entry.now)))) }
+            (D.contents self.new.device) (line_to_write self.old.next (entry_fields entry.now))) }
         ensures fault { IfErr result (λ fault. self.new.fault ≡ Some fault) }
         // For want of memory the device is as it was; else it refused the line, which was made.
         ensures why { IfErr result (λ fault. self.old.fault ≡ None → SaysWhy D.contents
-            self.old self.new (with_line_feed (entry_line (entry_fields entry.now))) fault) }
+            self.old self.new (line_to_write self.old.next (entry_fields entry.now)) fault) }
         // From the first fault on nothing is written.
         ensures again { IfSome self.old.fault (λ fault. (result ≡ Err fault)
             × (self.new ≡ self.old)) }
@@ -125,20 +126,26 @@ impl<D: Device + Drop> JournalWriter<D> {
     #[tactic(auto, using(crate::proofs::Refusals::refused_line))]
     fn write(&mut self, entry: &Entry) -> Result<(), AppendFault>
         ensures ok { OnOk result (Appends (D.contents self.old.device) (D.contents self.new.device)
-            (with_line_feed (entry_line (entry_fields entry.now)))) }
+            (line_to_write self.old.next (entry_fields entry.now))) }
+        ensures next { OnOk result (self.new.next ≡ next_place self.old.next) }
         ensures lasts { OnOk result
             (Keeps (D.contents self.new.device) (D.lasting self.new.device)) }
         ensures err { OnErr result (WritesPart (D.contents self.old.device)
-            (D.contents self.new.device)
-            (with_line_feed (entry_line (entry_fields entry.now)))) }
+            (D.contents self.new.device) (line_to_write self.old.next (entry_fields entry.now))) }
         ensures why { IfErr result (SaysWhy D.contents self.old self.new
-            (with_line_feed (entry_line (entry_fields entry.now)))) }
+            (line_to_write self.old.next (entry_fields entry.now))) }
         ensures fault { self.new.fault ≡ self.old.fault }
     {
         self.line.clear();
-        put_entry(&mut self.line, entry)?;
+        self.next.put_entry(&mut self.line, entry)?;
         self.line.push(b'\n')?;
-        put_line(&mut self.device, &self.line)
+        match put_line(&mut self.device, &self.line) {
+            Ok(()) => {
+                self.next = self.next.later(1);
+                Ok(())
+            }
+            Err(fault) => Err(fault),
+        }
     }
 
     /// The first fault, if there was one.
@@ -154,6 +161,7 @@ impl<D: Device + Drop> JournalWriter<D> {
     {
         let JournalWriter {
             device,
+            next: _,
             line: _,
             fault: _,
         } = self;

@@ -4,7 +4,10 @@ ghost use Rattle.std.specs.Prelude.{◌≡◌};
 ghost use Rattle.confer_node.specs.Statuses.{journal_status};
 ghost use Rattle.confer_node.specs.declared.journal.JournalFault.TheVariants.{NoMemory as OutOfMemory};
 
-use cb_journal::{AppendFault, Device, Journal, JournalWriter, ReadFault, put_head, read_journal};
+use cb_journal::{
+    AppendFault, Device, End, Journal, JournalWriter, ReadFault, Spelling, read_journal,
+};
+use cb_lines::first_line;
 use cb_member::{History, Identity, Member, NewFault};
 use cb_replay::{ResumeFault, resume};
 use cb_times::NoMemory;
@@ -62,6 +65,17 @@ impl JournalFault {
     }
 }
 
+impl JournalFault {
+    /// The line at fault after the head line, which is line 1: entry 1 is line 2.
+    fn line(self) -> Option<u64> {
+        match self {
+            JournalFault::BadLine { line } if line > 1 => Some(line),
+            JournalFault::NotLegal { entry } => Some((entry as u64).saturating_add(1)),
+            _ => None,
+        }
+    }
+}
+
 impl From<NoMemory> for JournalFault {
     ghost from_gives = { λ _ e. e ≡ OutOfMemory };
 
@@ -90,6 +104,13 @@ impl From<ResumeFault> for JournalFault {
     }
 }
 
+/// The file of `--journal`, and the line at which it is cut if that one is at fault.
+#[derive(Clone, Copy, Debug)]
+pub struct JournalPlace<'a> {
+    pub path: &'a str,
+    pub cut_at: Option<u64>,
+}
+
 /// A member all of whose entries its journal has.
 #[derive(Drop)]
 pub struct Kept<D> {
@@ -106,13 +127,13 @@ pub fn come_back<R: Files<File = File>>(
     rt: &R,
     alloc: Global,
     seat: Identity,
-    path: &str,
+    place: &JournalPlace<'_>,
 ) -> Result<Kept<File>, JournalFault> {
-    let mut file = opened(rt, path)?;
+    let mut file = opened(rt, place.path)?;
     let bytes = all_of(alloc, &mut file)?;
-    let kept = kept_by(alloc, seat, &bytes, file)?;
+    let kept = kept_by(alloc, seat, &bytes, place.cut_at, file)?;
     // The name of a file that was made outlasts a crash as its bytes do.
-    match sync_folder(rt, path) {
+    match sync_folder(rt, place.path) {
         Ok(()) => Ok(kept),
         Err(_fault) => Err(JournalFault::NotWritten),
     }
@@ -153,55 +174,59 @@ fn sync_folder<R: Files<File = File>>(rt: &R, path: &str) -> io::Result<()> {
 }
 
 /// The member of the journal that these bytes are, which stand on the device and end at its place.
-/// Where they are a part of the head line, or none, the journal begins.
+/// If they are a part of the head line, or none, the journal begins. If exactly the line to cut at is
+/// at fault, it and all after it is cut off.
 pub fn kept_by<D: Device + Drop>(
     alloc: Global,
     seat: Identity,
     bytes: &[u8],
+    cut_at: Option<u64>,
     device: D,
 ) -> Result<Kept<D>, JournalFault> {
-    match read_journal(alloc, bytes) {
-        Ok(journal) => back(alloc, seat, journal, device),
-        Err(ReadFault::NoHead) => begun(alloc, seat, bytes, device),
-        Err(ReadFault::BadLine { line }) => Err(JournalFault::BadLine { line }),
-        Err(ReadFault::NoMemory) => Err(JournalFault::NoMemory),
+    let found = match found_in(alloc, seat, bytes) {
+        Err(fault) if cut_at.is_some() && cut_at == fault.line() => {
+            found_in(alloc, seat, lines_before(bytes, cut_at))?
+        }
+        found => found?,
+    };
+    match found {
+        Some((member, end)) => {
+            let journal = JournalWriter::go_on(alloc, device, end)?;
+            Ok(Kept { member, journal })
+        }
+        None => begun(alloc, seat, bytes, device),
     }
 }
 
-/// The member comes back by its journal. What stands behind the whole lines is cut off only then.
-fn back<D: Device + Drop>(
+/// The lines before this one, of which the head line is 1; all whole lines where there are fewer.
+fn lines_before(bytes: &[u8], line: Option<u64>) -> &[u8] {
+    let mut rest = bytes;
+    for _ in 1..line.unwrap_or(1) {
+        let Some((_line, after)) = first_line(rest) else {
+            break;
+        };
+        rest = after;
+    }
+    &bytes[..bytes.len().saturating_sub(rest.len())]
+}
+
+/// The member that these bytes bring back, and where their whole lines end; `None` where no line is whole.
+fn found_in(
     alloc: Global,
     seat: Identity,
-    journal: Journal,
-    device: D,
-) -> Result<Kept<D>, JournalFault> {
-    let Journal {
-        history,
-        read,
-        torn,
-    } = journal;
+    bytes: &[u8],
+) -> Result<Option<(Member, End)>, JournalFault> {
+    let Journal { history, end, .. } = match read_journal(alloc, bytes) {
+        Ok(journal) => journal,
+        Err(ReadFault::NoHead) => return Ok(None),
+        Err(ReadFault::BadLine { line }) => return Err(JournalFault::BadLine { line }),
+        Err(ReadFault::NoMemory) => return Err(JournalFault::NoMemory),
+    };
     if !is_of(&history, seat) {
         return Err(JournalFault::OtherJournal);
     }
     let member = resume(alloc, history, HISTORY_MAX)?;
-    // The member has the entries. To go on only the lengths are needed; what the writer says of the
-    // entries that were read is said of none here.
-    let lengths = Journal {
-        history: no_entries(alloc, seat),
-        read,
-        torn,
-    };
-    let journal = JournalWriter::go_on(alloc, device, &lengths)?;
-    Ok(Kept { member, journal })
-}
-
-/// The history of this member before its first entry.
-fn no_entries(alloc: Global, seat: Identity) -> History {
-    History {
-        group: seat.group(),
-        me: seat.me(),
-        entries: Vec::new(alloc),
-    }
+    Ok(Some((member, end)))
 }
 
 /// Whether this history is that of the member.
@@ -227,7 +252,7 @@ fn begun<D: Device + Drop>(
 /// Whether the head line begins with these bytes, or is them.
 fn is_part_of_head(alloc: Global, seat: Identity, bytes: &[u8]) -> Result<bool, NoMemory> {
     let mut head = Vec::new(alloc);
-    put_head(&mut head, seat)?;
+    Spelling::new(seat).put_head(&mut head)?;
     Ok(head.starts_with(bytes))
 }
 

@@ -1,8 +1,8 @@
 //! The text of `--trace`: all that the member did.
 
-ghost use Rattle.std.specs.Prelude.{◌≡◌, ◌++◌, IfOk, OnOk, map};
+ghost use Rattle.std.specs.Prelude.{◌≡◌, ◌∷◌, ◌++◌, IfOk, OnOk, map};
 ghost use Rattle.cb_history.specs.Facts.{entry_fields};
-ghost use Rattle.cb_journal.specs.Journal.{journal_text};
+ghost use Rattle.cb_journal.specs.Journal.{head_line};
 ghost use Rattle.cb_lines.specs.Text.{entry_line, text_of_lines};
 
 use cb_journal::put_head;
@@ -11,11 +11,11 @@ use cb_member::{Entry, Member};
 use cb_times::NoMemory;
 use std::alloc::Global;
 
-/// The journal of the member: a line that says who it is, and a line for each entry of its history.
-#[tactic(auto, unfolding(cb_journal::specs::Journal::journal_text, cb_lines::specs::Text::text_of_lines))]
+/// The history of the member as a journal without checks: a line that says who it is, and a line for each entry.
+#[tactic(auto, unfolding(cb_lines::specs::Text::text_of_lines))]
 pub fn record_of(alloc: Global, member: &Member) -> Result<Vec<u8>, NoMemory>
-    ensures { IfOk result (λ text. text.items
-        ≡ journal_text member.now.seat member.now.entries) }
+    ensures { IfOk result (λ text. text.items ≡ text_of_lines (head_line member.now.seat
+        ∷ map entry_line member.now.entries)) }
 {
     let mut text = Vec::new(alloc);
     put_head(&mut text, member.seat())?;

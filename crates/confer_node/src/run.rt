@@ -64,9 +64,9 @@ pub fn run<
     W: Write,
     E: Write,
 >(rt: &H, order: &Order<'_>, input: I, output: &mut W, errors: &mut E) -> Result<Ended, Fault> {
-    match order.journal {
-        Some(path) => {
-            let kept = come_back(rt, order.alloc, order.seat, path)?;
+    match &order.journal {
+        Some(place) => {
+            let kept = come_back(rt, order.alloc, order.seat, place)?;
             let parts = Parts {
                 member: kept.member,
                 keeper: kept.journal,

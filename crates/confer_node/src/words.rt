@@ -4,6 +4,7 @@ ghost use Rattle.std.specs.Prelude.{◌≡◌, IfOk, length};
 ghost use Rattle.cb_history.specs.Group.{IsIdentity};
 
 use crate::fault::Fault;
+use crate::journal::JournalPlace;
 use cb_member::{Group, Identity};
 use cb_node::Bounds;
 use clap::builder::ValueParser;
@@ -49,8 +50,8 @@ pub struct Order<'a> {
     pub link: LinkKind,
     /// How often it ticks.
     pub bounds: Bounds,
-    /// Where the journal stands.
-    pub journal: Option<&'a str>,
+    /// The file of the journal, if one is kept.
+    pub journal: Option<JournalPlace<'a>>,
     /// Where the trace goes.
     pub trace: Option<&'a str>,
     /// So long the run goes on behind the end of its input at most.
@@ -85,7 +86,7 @@ fn ordered<'a>(alloc: Global, options: &ArgMatches<'a>) -> Result<Order<'a>, Fau
         addresses,
         link: link_of(options),
         bounds: bounds_of(options)?,
-        journal: options.get_str("journal"),
+        journal: journal_of(options),
         trace: options.get_str("trace"),
         patience: patience_of(options),
     })
@@ -134,6 +135,15 @@ fn bounds_of(options: &ArgMatches<'_>) -> Result<Bounds, Fault> {
     }
 }
 
+/// `clap` lets no line through without a journal.
+fn journal_of<'a>(options: &ArgMatches<'a>) -> Option<JournalPlace<'a>> {
+    let path = options.get_str("journal")?;
+    Some(JournalPlace {
+        path,
+        cut_at: options.get_one::<u64>("cut-at"),
+    })
+}
+
 fn patience_of(options: &ArgMatches<'_>) -> Option<Duration> {
     let seconds = options.get_one::<u32>("for")?;
     Some(Duration::from_secs(u64::from(seconds)))
@@ -161,7 +171,8 @@ fn command<'a>(alloc: Global) -> Result<Command<'a>, AllocError> {
     let kept = linked.arg(text_option(alloc, "journal", "FILE").help(
         "Where all that this member does is written before it is sent or printed; it comes back by that",
     ))?;
-    kept.arg(text_option(alloc, "trace", "FILE").help(
+    let cut = kept.arg(cut_option(alloc)?)?;
+    cut.arg(text_option(alloc, "trace", "FILE").help(
         "Where the journal of this member is written at the end, for a trace",
     ))
 }
@@ -219,6 +230,18 @@ fn text_option<'a>(alloc: Global, name: &'a str, unit: &'a str) -> Arg<'a> {
         .long(name)
         .value_name(unit)
         .action(ArgAction::Set)
+}
+
+fn cut_option<'a>(alloc: Global) -> Result<Arg<'a>, AllocError> {
+    let line = number_option(
+        alloc,
+        "cut-at",
+        "LINE",
+        value_parser!(u64).range(2..=1_000_001),
+        "Cuts the journal in front of this line, where it was refused for it; others may know more of this member than \
+         it does then",
+    );
+    line.requires_arg("journal")
 }
 
 fn tick_option<'a>(alloc: Global) -> Arg<'a> {

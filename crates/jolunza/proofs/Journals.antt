@@ -2,7 +2,8 @@
 use Rattle.std.proofs.Common.{◌≡◌, ◌≢◌, ℕ, List, Option, Some, None, Result, Ok, Err, refl, sym, subst, ◌∙◌, inl, inr}
 use Rattle.std.specs.Prelude.{MatchResult}
 use Rattle.cb_history.specs.Facts.{EntryFields}
-use Rattle.cb_lines.specs.Text.{entry_line}
+use Rattle.cb_journal.specs.Journal.{line_at}
+use Rattle.cb_journal.specs.declared.spelling.Place.{Place}
 use Rattle.cb_handle.specs.declared.held.Held.{Held}
 use Rattle.cb_handle_journal.specs.declared.fault.LineRefusal.{LineRefusal}
 use Rattle.cb_handle_journal.specs.declared.fault.LineRefusal.TheVariants as lines
@@ -33,20 +34,20 @@ abbrev pub Tells : {E : Type 0} → (E → ℕ) → Result ℕ E → ℕ → ℕ
 Tells code_of answer length new_length code =
     MatchResult answer (λ told. (code ≡ DONE) × (new_length ≡ told)) (λ refusal. (code ≡ code_of refusal) × (new_length ≡ length))
 
-pub line_shown : (o : Option EntryFields) (text new_text : List ℕ) (answer : Result ℕ LineRefusal) (length new_length code : ℕ) → SaysLine o text new_text answer → Tells line_code answer length new_length code
-    → ShowsEntryLine o text new_text new_length code
-line_shown (Some e) text new_text (Ok count) length new_length code says tells = inl (tells.0, subst (ShowsLine (entry_line e) text new_text) (sym tells.1) says)
-line_shown (Some e) text new_text (Err lines.NoneThere) length new_length code says tells = absurd says
-line_shown (Some e) text new_text (Err lines.NoMemory) length new_length code says tells = inr tells.0
-line_shown None text new_text (Ok count) length new_length code says tells = absurd says
-line_shown None text new_text (Err lines.NoneThere) length new_length code says tells = tells.0
-line_shown None text new_text (Err lines.NoMemory) length new_length code says tells = absurd says
+pub line_shown : (place : Place) (o : Option EntryFields) (text new_text : List ℕ) (answer : Result ℕ LineRefusal) (length new_length code : ℕ) → SaysLine place o text new_text answer → Tells line_code answer length new_length code
+    → ShowsEntryLine place o text new_text new_length code
+line_shown place (Some e) text new_text (Ok count) length new_length code says tells = inl (tells.0, subst (ShowsLine (line_at place.spelling place.number e) text new_text) (sym tells.1) says)
+line_shown place (Some e) text new_text (Err lines.NoneThere) length new_length code says tells = absurd says
+line_shown place (Some e) text new_text (Err lines.NoMemory) length new_length code says tells = inr tells.0
+line_shown place None text new_text (Ok count) length new_length code says tells = absurd says
+line_shown place None text new_text (Err lines.NoneThere) length new_length code says tells = tells.0
+line_shown place None text new_text (Err lines.NoMemory) length new_length code says tells = absurd says
 
-pub line_not_shown : (o : Option EntryFields) (text new_text : List ℕ) (answer : Result ℕ LineRefusal) (length new_length code : ℕ) → SaysLine o text new_text answer → Tells line_code answer length new_length code
+pub line_not_shown : (place : Place) (o : Option EntryFields) (text new_text : List ℕ) (answer : Result ℕ LineRefusal) (length new_length code : ℕ) → SaysLine place o text new_text answer → Tells line_code answer length new_length code
     → code ≢ DONE → (new_text ≡ text) × (new_length ≡ length)
-line_not_shown (Some e) text new_text (Ok count) length new_length code says tells other = absurd (other tells.0)
-line_not_shown (Some e) text new_text (Err lines.NoneThere) length new_length code says tells other = absurd says
-line_not_shown (Some e) text new_text (Err lines.NoMemory) length new_length code says tells other = (says, tells.1)
-line_not_shown None text new_text (Ok count) length new_length code says tells other = absurd says
-line_not_shown None text new_text (Err lines.NoneThere) length new_length code says tells other = (says, tells.1)
-line_not_shown None text new_text (Err lines.NoMemory) length new_length code says tells other = absurd says
+line_not_shown place (Some e) text new_text (Ok count) length new_length code says tells other = absurd (other tells.0)
+line_not_shown place (Some e) text new_text (Err lines.NoneThere) length new_length code says tells other = absurd says
+line_not_shown place (Some e) text new_text (Err lines.NoMemory) length new_length code says tells other = (says, tells.1)
+line_not_shown place None text new_text (Ok count) length new_length code says tells other = absurd says
+line_not_shown place None text new_text (Err lines.NoneThere) length new_length code says tells other = (says, tells.1)
+line_not_shown place None text new_text (Err lines.NoMemory) length new_length code says tells other = absurd says

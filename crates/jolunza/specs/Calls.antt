@@ -21,12 +21,12 @@ use Rattle.cb_handle.specs.declared.rows.Received.{Received}
 use Rattle.cb_handle.specs.Copies.{copied}
 use Rattle.cb_handle.specs.Entries.{delayed_row, range_row}
 use Rattle.cb_handle.specs.Opening.{RefusesToOpen, IsNewOf}
-use Rattle.cb_handle.specs.Calling.{OnEach, entries_held, seat_held, HasCastToSend, HasReceivedToSend, HasTickedToSend, HasHelpToSend, HasHelpAmongToSend, RefusesBytes, HasReceivedLoaded, RefusesLoaded, with_loaded}
+use Rattle.cb_handle.specs.Calling.{OnEach, entries_held, place_held, seat_held, HasCastToSend, HasReceivedToSend, HasTickedToSend, HasHelpToSend, HasHelpAmongToSend, RefusesBytes, HasReceivedLoaded, RefusesLoaded, with_loaded}
 use Rattle.cb_handle.specs.Parts.{HasReceivedParts, RefusesParts}
 use Rattle.cb_handle.specs.declared.held.PayloadsRefusal.{PayloadsRefusal}
 use Rattle.cb_handle.specs.Payloads.{AreThere, RefusesPayloads, burst_in}
-use Rattle.cb_lines.specs.Text.{entry_line}
-use Rattle.cb_journal.specs.Journal.{head_line}
+use Rattle.cb_journal.specs.Journal.{journal_head, line_at}
+use Rattle.cb_journal.specs.declared.spelling.Place.{Place}
 use Rattle.cb_handle_journal.specs.declared.fault.ResumeFault.{ResumeFault}
 use Rattle.cb_handle_journal.specs.declared.fault.ResumeFault.TheVariants as resumes
 use Rattle.cb_handle_journal.specs.declared.resuming.Resumed.{Resumed}
@@ -185,10 +185,10 @@ Holds resumed before after journal new_journal code =
 
 -- the head line is shown, or there was no memory for it
 pub record ShowsHead (text new_text : List ℕ) (count : ℕ) (held : Held) (code : ℕ) : Type 0 where
-  pub done : code ≡ DONE → ShowsLine (head_line (seat_held held)) text new_text count
+  pub done : code ≡ DONE → ShowsLine (journal_head (place_held held 0).spelling) text new_text count
   pub codes : (code ≡ DONE) ⊎ (code ≡ NO_MEMORY)
 
--- the line of this entry is shown, or there is no such entry, or there was no memory for the line
-abbrev pub ShowsEntryLine : Option EntryFields → List ℕ → List ℕ → ℕ → ℕ → Type 0
-ShowsEntryLine None text new_text count code = code ≡ NONE_THERE
-ShowsEntryLine (Some entry) text new_text count code = ((code ≡ DONE) × ShowsLine (entry_line entry) text new_text count) ⊎ (code ≡ NO_MEMORY)
+-- the line of this entry, which stands at this place, is shown, or there is no such entry, or there was no memory for the line
+abbrev pub ShowsEntryLine : Place → Option EntryFields → List ℕ → List ℕ → ℕ → ℕ → Type 0
+ShowsEntryLine place None text new_text count code = code ≡ NONE_THERE
+ShowsEntryLine place (Some entry) text new_text count code = ((code ≡ DONE) × ShowsLine (line_at place.spelling place.number entry) text new_text count) ⊎ (code ≡ NO_MEMORY)

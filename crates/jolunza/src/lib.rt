@@ -12,7 +12,7 @@ ghost use Rattle.cb_handle.specs.Copies.{copied};
 ghost use Rattle.cb_handle.specs.Frames.{frames_of, ShowsFrame, ShowsFrames};
 ghost use Rattle.cb_handle.specs.Events.{ShowsEvent, ShowsEvents};
 ghost use Rattle.cb_handle.specs.Entries.{ShowsEntry};
-ghost use Rattle.cb_handle.specs.Calling.{OnEach, counts_of, entries_held, events_held, seat_held};
+ghost use Rattle.cb_handle.specs.Calling.{OnEach, counts_of, entries_held, events_held, place_held, seat_held};
 ghost use Rattle.jolunza.specs.declared.code.TheConstants.{DONE};
 ghost use Rattle.jolunza.specs.Senders.{TellsSender};
 ghost use Rattle.jolunza.specs.Calls.{Holds, Resumes, ShowsEntryLine, ShowsHead};
@@ -584,8 +584,9 @@ pub extern "C" fn jolunza_journal_line(
     text: &mut [u8],
     length: &mut usize,
 ) -> u32
-    ensures shows { Calls (Reads (λ held. ShowsEntryLine (slice_get (entries_held held) index)
-        text.old text.new length.new)) handle.old.held handle.new.held result }
+    ensures shows { Calls (Reads (λ held. ShowsEntryLine (place_held held index)
+        (slice_get (entries_held held) index) text.old text.new length.new)) handle.old.held
+        handle.new.held result }
     ensures same { result ≢ DONE → (text.new ≡ text.old) × (length.new ≡ length.old) }
 {
     let Some(held) = take(alloc, handle) else {

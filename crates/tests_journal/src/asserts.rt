@@ -7,14 +7,21 @@ use std::alloc::Global;
 use std::process::Abort;
 
 /// Member 1 of group 7 takes "hi" of member 0, answers "yo" and reports.
-pub const WORKED: &str = "cbcast 1 group 7 size 3 window 4 member 1
+pub const WORKED: &str = "cbcast 1 group 7 size 3 window 4 member 1 d7b30c7ba9908154
+arrive 1107000100026869 0.1 dca6b8ca8e788eb9
+cast 1107010101000102796f 7544887d392a5da3
+tick 120701020001 938ac1dd99f47e63
+";
+
+/// The bytes of its head line.
+pub const HEAD: usize = 59;
+
+/// The same journal in the form without checks.
+pub const PLAIN: &str = "cbcast 1 group 7 size 3 window 4 member 1
 arrive 1107000100026869 0.1
 cast 1107010101000102796f
 tick 120701020001
 ";
-
-/// The bytes of its head line.
-pub const HEAD: usize = 42;
 
 const HI: [u8; 8] = [0x11, 7, 0, 1, 0, 2, 0x68, 0x69];
 

@@ -1,12 +1,12 @@
-//! Reading: the worked journal, each cut of it, and each way to spoil a line.
+//! Reading: the worked journal in both forms, each cut of it, and each way to spoil a line without a check.
 
-use crate::asserts::{HEAD, WORKED, is_worked};
-use cb_journal::{Journal, ReadFault, read_journal};
+use crate::asserts::{HEAD, PLAIN, WORKED, is_worked};
+use cb_journal::{Form, Journal, ReadFault, read_journal};
 use std::alloc::Global;
 use std::process::Abort;
 use std::test::Fail;
 
-/// The worked journal, with what is put in place of a part of it, and the line that is bad then.
+/// The worked journal without checks, with what is put in place of a part of it, and the line that is bad then.
 const SPOILED: [(&str, &str, u64); 17] = [
     ("cbcast 1", "cbcast 2", 1),
     ("group 7", "group 07", 1),
@@ -35,7 +35,14 @@ fn read(rt: &impl Abort, alloc: Global, text: &[u8]) -> Journal {
 fn the_worked_journal_is_read(rt: HostRuntime) {
     let journal = read(&rt, rt.alloc(), WORKED.as_bytes());
     is_worked(&rt, rt.alloc(), &journal, 3, 0);
-    assert_eq!(&rt; journal.read, WORKED.len());
+    assert_eq!(&rt; journal.end.read, WORKED.len());
+}
+
+#[test]
+fn the_worked_journal_without_checks_is_read(rt: HostRuntime) {
+    let journal = read(&rt, rt.alloc(), PLAIN.as_bytes());
+    is_worked(&rt, rt.alloc(), &journal, 3, 0);
+    assert_eq!(&rt; journal.end.next.spelling.form, Form::Plain);
 }
 
 #[test]
@@ -49,7 +56,7 @@ fn each_cut_behind_the_head_is_a_beginning(rt: HostRuntime) {
             whole = length;
         }
         let journal = read(&rt, rt.alloc(), &text[..length]);
-        assert_eq!(&rt; (journal.read, length), (whole, length));
+        assert_eq!(&rt; (journal.end.read, length), (whole, length));
         is_worked(
             &rt,
             rt.alloc(),
@@ -70,7 +77,7 @@ fn before_the_head_is_whole_there_is_none(rt: HostRuntime) {
 }
 
 fn spoiled(alloc: Global, old: &str, new: &str) -> Result<String, Fail> {
-    let Some((front, back)) = WORKED.split_once(old) else {
+    let Some((front, back)) = PLAIN.split_once(old) else {
         return Err(Fail::new("the part is not there"));
     };
     Ok(format!(in alloc; "{front}{new}{back}")?)

@@ -6,6 +6,8 @@ mod asserts;
 #[cfg(test)]
 mod cores;
 #[cfg(test)]
+mod damage;
+#[cfg(test)]
 mod devices;
 #[cfg(test)]
 mod fakes;

@@ -78,13 +78,13 @@ fn what_a_crash_leaves_brings_it_back(rt: HostRuntime) {
     let text = journal_of(&rt, rt.alloc(), member.seat(), member.history());
     drop(member);
     let mut counts: [u32; 5] = [0; 5];
-    for length in 42..=text.len() {
+    for length in 59..=text.len() {
         let place = entries_of(&rt, rt.alloc(), &text[..length]).min(4);
         counts[place] = counts[place].saturating_add(1);
     }
     drop(text);
     // The lengths of the five lines behind the head; the last cut has all.
-    assert_eq!(&rt; counts, [28, 26, 34, 22, 1]);
+    assert_eq!(&rt; counts, [45, 43, 51, 39, 1]);
 }
 
 /// A history with the first entries of the member, and then those of these places again.

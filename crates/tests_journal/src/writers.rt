@@ -1,6 +1,6 @@
 //! Writing: what stands on the device, two crashes in a row, and devices that fail.
 
-use crate::asserts::{HEAD, WORKED, entry, is_worked, seat};
+use crate::asserts::{HEAD, PLAIN, WORKED, entry, is_worked, seat};
 use crate::devices::{Fails, Slow};
 use cb_journal::{AppendFault, Device, JournalWriter, read_journal};
 use std::alloc::Global;
@@ -43,7 +43,7 @@ fn beginning_cuts_off_what_stood_there(rt: HostRuntime) {
 fn goes_on(rt: &impl Abort, alloc: Global, text: Vec<u8>, place: usize, torn: usize) -> Vec<u8> {
     let journal = read_journal(alloc, &text).expect(rt, "it is a journal");
     is_worked(rt, alloc, &journal, place, torn);
-    let mut writer = JournalWriter::go_on(alloc, text, &journal).expect(rt, "it goes on");
+    let mut writer = JournalWriter::go_on(alloc, text, journal.end).expect(rt, "it goes on");
     let entry = entry(rt, alloc, place);
     writer.append(&entry).expect(rt, "it is written");
     writer.into_device()
@@ -52,11 +52,22 @@ fn goes_on(rt: &impl Abort, alloc: Global, text: Vec<u8>, place: usize, torn: us
 #[test]
 fn two_crashes_in_a_row_lose_no_whole_line(rt: HostRuntime) {
     let mut text = written(&rt, rt.alloc(), Vec::new(rt.alloc()), 2).into_device();
-    text.truncate(HEAD + 28 + 5);
+    text.truncate(HEAD + 45 + 5);
     let mut text = goes_on(&rt, rt.alloc(), text, 1, 5);
     text.extend_from_slice(b"tick 1207").expect(&rt, "memory");
     let text = goes_on(&rt, rt.alloc(), text, 2, 9);
     let is_same = text.as_slice() == WORKED.as_bytes();
+    drop(text);
+    assert!(&rt; is_same);
+}
+
+#[test]
+fn a_journal_without_checks_goes_on_without(rt: HostRuntime) {
+    let (front, _torn) = PLAIN.as_bytes().split_at(42 + 28 + 5);
+    let text = front.to_vec(rt.alloc()).expect(&rt, "memory");
+    let text = goes_on(&rt, rt.alloc(), text, 1, 5);
+    let text = goes_on(&rt, rt.alloc(), text, 2, 0);
+    let is_same = text.as_slice() == PLAIN.as_bytes();
     drop(text);
     assert!(&rt; is_same);
 }
@@ -96,12 +107,12 @@ fn after_a_fault_nothing_more_is_written(rt: HostRuntime) {
     let full = AppendFault::Write {
         kind: ErrorKind::StorageFull,
     };
-    fails(&rt, rt.alloc(), Fails::Write(HEAD + 28), full, HEAD + 28);
-    fails(&rt, rt.alloc(), Fails::Write(HEAD + 30), full, HEAD + 31);
+    fails(&rt, rt.alloc(), Fails::Write(HEAD + 45), full, HEAD + 45);
+    fails(&rt, rt.alloc(), Fails::Write(HEAD + 47), full, HEAD + 48);
     let sync = AppendFault::Sync {
         kind: ErrorKind::Other,
     };
-    fails(&rt, rt.alloc(), Fails::Sync(HEAD + 29), sync, HEAD + 54);
+    fails(&rt, rt.alloc(), Fails::Sync(HEAD + 46), sync, HEAD + 88);
 }
 
 #[test]

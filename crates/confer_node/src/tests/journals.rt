@@ -1,6 +1,6 @@
 //! A member comes back by its journal: on a file, and why it does not.
 
-use crate::journal::{JournalFault, Kept, come_back, kept_by};
+use crate::journal::{JournalFault, JournalPlace, Kept, come_back, kept_by};
 use cb_member::{Group, Identity};
 use std::alloc::{Allocator, Global};
 use std::fs::{File, Files, Metadata, OpenOptions};
@@ -14,9 +14,14 @@ fn seat(rt: &impl Abort) -> Identity {
     Identity::new(group, 0).expect(rt, "a member")
 }
 
+/// The journal in this file, which is not cut.
+fn at(path: &str) -> JournalPlace<'_> {
+    JournalPlace { path, cut_at: None }
+}
+
 /// One life of the member on this file: it comes back, casts this and ends. How many entries it had.
 fn life<R: Abort + Files<File = File>>(rt: &R, alloc: Global, path: &str, payload: &[u8]) -> usize {
-    let kept = come_back(rt, alloc, seat(rt), path).expect(rt, "it comes back");
+    let kept = come_back(rt, alloc, seat(rt), &at(path)).expect(rt, "it comes back");
     let Kept {
         mut member,
         mut journal,
@@ -61,10 +66,10 @@ fn two_crashes_in_a_row_on_a_file_lose_no_whole_line(rt: HostRuntime) {
 }
 
 /// Its journal behind the three lives.
-const WHOLE: &str = "cbcast 1 group 7 size 2 window 4 member 0
-cast 1107000100036f6e65
-cast 11070002000374776f
-cast 110700030003736978
+const WHOLE: &str = "cbcast 1 group 7 size 2 window 4 member 0 3ec1345fcc186b2a
+cast 1107000100036f6e65 a8210a8e7f7131d4
+cast 11070002000374776f b4c25cacc08a1955
+cast 110700030003736978 45f48a1f667a52ae
 ";
 
 #[test]
@@ -72,10 +77,10 @@ fn a_file_is_one_member_s_at_a_time(rt: HostRuntime) {
     let path = "one_at_a_time.journal";
     let _ = fs::remove_file(&rt, path);
     let alloc = rt.alloc();
-    let kept = come_back(&rt, alloc, seat(&rt), path).expect(&rt, "it begins");
-    let second = come_back(&rt, alloc, seat(&rt), path).err();
+    let kept = come_back(&rt, alloc, seat(&rt), &at(path)).expect(&rt, "it begins");
+    let second = come_back(&rt, alloc, seat(&rt), &at(path)).err();
     drop(kept);
-    let third = come_back(&rt, alloc, seat(&rt), path).err();
+    let third = come_back(&rt, alloc, seat(&rt), &at(path)).err();
     let _ = fs::remove_file(&rt, path);
     assert_eq!(&rt; (second, third), (Some(JournalFault::InUse), None));
 }
@@ -83,7 +88,7 @@ fn a_file_is_one_member_s_at_a_time(rt: HostRuntime) {
 #[test]
 fn a_file_in_no_folder_is_not_opened(rt: HostRuntime) {
     let path = "no such folder/a.journal";
-    let answer = come_back(&rt, rt.alloc(), seat(&rt), path).err();
+    let answer = come_back(&rt, rt.alloc(), seat(&rt), &at(path)).err();
     assert_eq!(&rt; answer, Some(JournalFault::NotOpened));
 }
 
@@ -147,7 +152,7 @@ impl<R: Files<File = File>> Files for Shut<'_, R> {
 fn a_folder_that_is_not_synced_brings_nobody_back(rt: HostRuntime) {
     let path = "shut.journal";
     let files = Shut { files: &rt };
-    let answer = come_back(&files, rt.alloc(), seat(&rt), path).err();
+    let answer = come_back(&files, rt.alloc(), seat(&rt), &at(path)).err();
     let _ = fs::remove_file(&rt, path);
     assert_eq!(&rt; answer, Some(JournalFault::NotWritten));
 }
@@ -155,7 +160,7 @@ fn a_folder_that_is_not_synced_brings_nobody_back(rt: HostRuntime) {
 /// What is answered for these bytes: how many entries the member has, or the fault.
 fn answer(rt: &impl Abort, alloc: Global, text: &[u8]) -> Result<usize, JournalFault> {
     let device = Vec::from_slice(alloc, text).expect(rt, "memory");
-    match kept_by(alloc, seat(rt), text, device) {
+    match kept_by(alloc, seat(rt), text, None, device) {
         Ok(kept) => Ok(kept.member.history().len()),
         Err(fault) => Err(fault),
     }
@@ -221,13 +226,55 @@ fn a_journal_by_which_nobody_comes_back_stays_as_it_was(rt: HostRuntime) {
     let path = "stays.journal";
     for (text, fault) in NOBODY {
         fs::write(&rt, path, text.as_bytes()).expect(&rt, "the file");
-        let answer = come_back(&rt, rt.alloc(), seat(&rt), path).err();
+        let answer = come_back(&rt, rt.alloc(), seat(&rt), &at(path)).err();
         let found = fs::read(&rt, path).expect(&rt, "the file");
         let is_same = found.as_slice() == text.as_bytes();
         drop(found);
         let _ = fs::remove_file(&rt, path);
         assert_eq!(&rt; (answer, is_same), (Some(*fault), true));
     }
+}
+
+/// What is left on the device where the journal is cut at this line, or the fault.
+fn cut(rt: &impl Abort, alloc: Global, text: &str, line: u64) -> Result<usize, JournalFault> {
+    let device = Vec::from_slice(alloc, text.as_bytes()).expect(rt, "memory");
+    let kept = kept_by(alloc, seat(rt), text.as_bytes(), Some(line), device)?;
+    let Kept { member, journal } = kept;
+    drop(member);
+    let left = journal.into_device();
+    let is_front = text.as_bytes().starts_with(&left);
+    let length = left.len();
+    drop(left);
+    assert!(rt; is_front);
+    Ok(length)
+}
+
+/// The first cast, a line that is none, and a line behind it.
+const DAMAGED: &str = "cbcast 1 group 7 size 2 window 4 member 0
+cast 1107000100036f6e65
+cost 11070002000374776f
+cast 110700030003736978
+";
+
+/// The second cast comes before the first one.
+const EXCHANGED: &str = "cbcast 1 group 7 size 2 window 4 member 0
+cast 11070002000374776f
+cast 1107000100036f6e65
+";
+
+#[test]
+fn a_journal_is_cut_at_the_line_at_fault_alone(rt: HostRuntime) {
+    let alloc = rt.alloc();
+    let bad = |line: u64| Err(JournalFault::BadLine { line });
+    assert_eq!(&rt; cut(&rt, alloc, DAMAGED, 3), Ok(66));
+    assert_eq!(&rt; cut(&rt, alloc, DAMAGED, 2), bad(3));
+    assert_eq!(&rt; cut(&rt, alloc, DAMAGED, 4), bad(3));
+    assert_eq!(&rt; cut(&rt, alloc, EXCHANGED, 2), Ok(42));
+    // A line that is not at fault is not cut off, nor the head line.
+    assert_eq!(&rt; cut(&rt, alloc, &DAMAGED[..66], 2), Ok(66));
+    assert_eq!(&rt; cut(&rt, alloc, "my own notes\n", 1), bad(1));
+    let whole = WHOLE.len();
+    assert_eq!(&rt; cut(&rt, alloc, WHOLE, 3), Ok(whole));
 }
 
 #[test]

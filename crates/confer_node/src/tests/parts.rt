@@ -184,6 +184,8 @@ fn words_order_a_member(rt: HostRuntime) {
         "40",
         "--journal",
         "kept",
+        "--cut-at",
+        "9",
         "--trace",
         "file",
         "--for",
@@ -196,7 +198,8 @@ fn words_order_a_member(rt: HostRuntime) {
     assert_eq!(&rt; order.link, LinkKind::Tcp);
     let bounds = Bounds::new(Duration::from_millis(40), Duration::from_secs(1));
     assert_eq!(&rt; Ok(order.bounds), bounds);
-    assert_eq!(&rt; order.journal, Some("kept"));
+    let place = order.journal.expect(&rt, "a journal");
+    assert_eq!(&rt; (place.path, place.cut_at), ("kept", Some(9)));
     assert_eq!(&rt; order.trace, Some("file"));
     assert_eq!(&rt; order.patience, Some(Duration::from_secs(5)));
     drop(order);

@@ -1,5 +1,6 @@
 //! Whole runs of a member over UDP. The other one is away.
 
+use crate::journal::JournalPlace;
 use crate::run::{report, run};
 use crate::words::{LinkKind, Order};
 use cb_member::{Group, Identity};
@@ -37,7 +38,7 @@ fn order<R: Net + Abort>(
         addresses: addresses(rt, alloc),
         link: LinkKind::Udp,
         bounds: bounds.expect(rt, "bounds"),
-        journal,
+        journal: journal.map(|path| JournalPlace { path, cut_at: None }),
         trace,
         patience: Some(Duration::ZERO),
     }

@@ -292,15 +292,15 @@ fn came(rt: &(impl Wait + Clock), inlet: &mut ChannelInlet) -> u32 {
     count
 }
 
-/// The head line has 42 bytes, the line of a cast here 24, that of the one tick 18.
+/// The head line has 59 bytes, the line of a cast here 41, and the line of the one tick 35.
 #[test]
 fn of_an_entry_that_is_not_written_nothing_is_sent_or_shown(rt: HostRuntime) {
     let first = "0.1 \"one\"\n";
     let table = [
-        (50, 3, "", 0),
-        (70, 3, first, 1),
-        (90, 3, first, 2),
-        (108, 1, "0.1 \"one\"\n0.2 \"two\"\n", 3),
+        (70, 3, "", 0),
+        (110, 3, first, 1),
+        (150, 3, first, 2),
+        (176, 1, "0.1 \"one\"\n0.2 \"two\"\n", 3),
     ];
     for (room, status, printed, sent) in table {
         let did = done(&rt, rt.alloc(), room, &[b"one\n", b"two\n"], &[]);
@@ -312,7 +312,7 @@ fn of_an_entry_that_is_not_written_nothing_is_sent_or_shown(rt: HostRuntime) {
 /// What member 1 cast is delivered, but not shown before its entry is written.
 #[test]
 fn of_an_arrival_that_is_not_written_nothing_is_shown(rt: HostRuntime) {
-    let table = [(45, 3, "", 0), (200, 1, "1.1 \"hi\"\n", 1)];
+    let table = [(70, 3, "", 0), (300, 1, "1.1 \"hi\"\n", 1)];
     for (room, status, printed, sent) in table {
         let frame = b"\x11\x07\x01\x01\x00\x02hi";
         let did = done(&rt, rt.alloc(), room, &[], &[frame]);

@@ -17,7 +17,7 @@ kept_by-requires c = subst (HasRoom c.args.history_max) (c.len.ensures ∙ c.arg
 pub returns-in-Ok : goal.returns-in-Ok
 returns-in-Ok c bytes is =
     let room = subst (HasRoom c.args.history_max) (c.len.ensures ∙ c.args.journal.history.entries.ok.0) c.in_ok-judge.ensures.room in
-    is_back bytes c.args.history_max c.args.journal is c.in-Ok.kept c.of.result room c.in-Ok.ensures c.of.ensures.kept c.of.ensures.frames c.of.ensures.loaded
+    is_back bytes c.args.history_max c.args.journal is c.in-Ok.kept c.of.result room c.in-Ok.ensures c.of.ensures.kept c.of.ensures.frames c.of.ensures.loaded c.of.ensures.form c.of.ensures.forgotten
 
 pub returns-in-Err : goal.returns-in-Err
 returns-in-Err c bytes is =
