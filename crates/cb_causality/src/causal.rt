@@ -23,7 +23,7 @@ fn has(events: &[CausalEvent], name: Name) -> bool
     events.iter().any(|event| event.name() == name)
 }
 
-/// What the message says, if it is cast in the caster's list, and the receiver's list lacks it and has all that
+/// The payload of the message, if it is cast in the caster's list, and the receiver's list lacks it and has all that
 /// stands before that cast.
 fn cast_with_past<'a>(
     caster: &'a [CausalEvent],
@@ -66,7 +66,7 @@ fn name_after(events: &[CausalEvent], member: usize) -> Name
     }
 }
 
-/// What the message says, if the receiver may deliver it.
+/// The payload of the message, if the receiver may deliver it.
 fn deliverable(lists: &[Vec<CausalEvent>], receiver: usize, name: Name) -> Option<&Bytes>
     requires receiver { receiver < length lists.now }
     requires run { IsCausal (contents lists.now) }
@@ -127,7 +127,8 @@ impl CausalGroup {
         list_of(self.lists.as_slice(), member)
     }
 
-    /// The member casts its next message, with this payload, and answers its name.
+    /// The member casts its next message, with this payload, and gets its name. `Full` exactly where the member has 4,294,967,295
+    /// events, so that there may be no number left; else the only error is out of memory. After an error nothing has changed.
     pub fn cast(&mut self, member: usize, payload: Bytes) -> Result<Name, CastFault>
         requires { member < length self.old }
         ensures cast { OnOk result
@@ -156,7 +157,8 @@ impl CausalGroup {
         deliverable(self.lists.as_slice(), receiver, name).is_some()
     }
 
-    /// The receiver delivers the message where it may, and answers whether it did.
+    /// The receiver delivers the message where it may, and gets whether it did. Where it may not, and after an error, nothing has
+    /// changed.
     pub fn deliver(&mut self, receiver: usize, name: Name) -> Result<bool, NoMemory>
         requires { receiver < length self.old }
         ensures delivered { IfOk result (λ done. IsTrue done

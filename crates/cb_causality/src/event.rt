@@ -1,4 +1,4 @@
-//! What a member of a group does with a message: it casts it, or delivers it.
+//! An event: a member casts a message, or delivers it.
 
 use bytes::Bytes;
 use cb_times::Name;
@@ -25,7 +25,7 @@ impl CausalEvent {
         }
     }
 
-    /// What the message says.
+    /// The payload of the message.
     pub fn payload(&self) -> &Bytes
         ensures { result.now ≡ payload_of self.now }
     {

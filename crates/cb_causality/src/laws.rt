@@ -1,4 +1,4 @@
-//! What is proved of every run, of any length and for every size of the group.
+//! The laws of every run, of any length and for every size of the group.
 //!
 //! Each law is a function that does nothing: its contract is the law.
 
@@ -22,7 +22,7 @@ pub fn happened_before_is_strict_order()
     ensures acyclic { EachRun (λ size lists. IsAcyclic lists) }
 {}
 
-/// What happens later adds no path between older places, and takes none away.
+/// Later steps add no path between older places, and take none away.
 pub fn steps_keep_the_past()
     ensures { EachStep KeepsPaths }
 {}
@@ -39,15 +39,15 @@ pub fn stamped_broadcast_is_causal()
     ensures in_order { EachStampedRun (λ size lists. IsInOrder (erased lists)) }
 {}
 
-/// The stamped machine is no smaller thing: the delay rule holds nothing back longer than causality asks, and every run
-/// of the causal machine is one of the stamped machine without its times.
+/// The delay rule delays no message longer than causality requires, and every run of the causal machine is one of the stamped machine
+/// without its times: the stamped machine is no smaller thing.
 pub fn causal_broadcast_can_be_stamped()
     ensures exact { EachStampedRun (λ size lists. DelayRuleIsExact lists) }
     ensures erasure { EachRun IsErasure }
 {}
 
-/// The machines know the lists alone. Lists that agree, member by member, with those of a run are those of a run. So it is with a
-/// step, and with an event that is appended, for the lists before and after.
+/// The machines know only the lists. Lists that agree, member by member, with those of a run are those of a run. The same holds of a
+/// step, and of an event that is appended, for the lists before and after.
 ///
 /// Lists may be given in any way that has the right list for each member, as by the state of a schedule, in which other things may
 /// change.
@@ -62,12 +62,12 @@ pub fn machines_know_the_lists_alone()
         → RelatesListsAlone (λ before after. Appends before after i event) }
 {}
 
-/// Several steps at once. Lists extend others where they come from them by steps, one after the other. A run that is extended is a
-/// run, each list begins with what it was, lists extend themselves, and what extends an extension extends what that one extends.
-/// What extends a stamped run, without the times, extends it by steps of the causal machine.
+/// Lists extend others if they come from them by several steps, one after another. A run that is extended is a run, each list begins
+/// with its old content, lists extend themselves, and an extension of an extension is an extension of the first. The lists that extend a
+/// stamped run extend it, without the times, by steps of the causal machine.
 ///
-/// Deliveries to one member extend the lists where the delay rule allows each once those before it are delivered: a drain is such.
-/// Casts of one member extend them where each is its next message, stamped with what its list has, once those before it are cast.
+/// Deliveries to one member extend the lists where the delay rule allows each once those before it are delivered: a drain is such. Casts
+/// of one member extend them where each is its next message, stamped with the counts of its list, once those before it are cast.
 pub fn runs_are_extended_by_several_steps()
     ensures causal { (size : ℕ) → ExtendsRuns (Run size) (Step size) }
     ensures stamped { (size : ℕ) → ExtendsRuns (StampedRun size) (StampedStep size) }
@@ -76,13 +76,13 @@ pub fn runs_are_extended_by_several_steps()
     ensures casts { (size : ℕ) → CastsInTurnExtend size }
 {}
 
-/// What happened before a message has a time with a smaller sum of fields, over the fields 0 to size - 1. So a proof of something of
-/// each message from what happened before it is an induction on this sum.
+/// A message that happened before another has a time with a smaller sum of fields, over the fields 0 to size - 1. A proof of something
+/// of each message from the messages that happened before it is an induction on this sum.
 pub fn past_has_a_smaller_sum()
     ensures { EachStampedRun PastHasSmallerSum }
 {}
 
-/// A name tells its message. The field of a message's sender in its time is its number. All events of one name have one payload, in
+/// A name determines its message. The field of a message's sender in its time is its number. All events of one name have one payload, in
 /// every run of the causal machine; in every stamped run they have one time as well.
 pub fn a_name_tells_its_message()
     ensures number { EachStampedRun (λ size lists. OwnFieldIsNumber lists) }

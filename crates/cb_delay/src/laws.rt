@@ -1,4 +1,4 @@
-//! What holds of every delay queue: each law is the contract of a function that does nothing.
+//! The laws of every delay queue: each law is the contract of a function that does nothing.
 ghost use Rattle.cb_delay.specs.Laws.{CountIsWithin};
 
 /// Of a sender no more messages are held than there are numbers from the least one held to the greatest. So there is

@@ -15,9 +15,9 @@ use cb_times::{Name, NoMemory, VectorTime};
 pub struct Message {
     /// Who sent it, and as which of its messages.
     pub name: Name,
-    /// What its sender had delivered when it sent it, this message included.
+    /// How many messages of each member its sender had delivered when it sent it, this message included.
     pub time: VectorTime,
-    /// What it says. A `copy` shares these bytes, by design.
+    /// Its payload. A `copy` shares these bytes, by design.
     pub payload: Bytes,
 }
 
@@ -56,7 +56,7 @@ pub fn is_ready(sender: u32, time: &VectorTime, now: &VectorTime) -> bool
         && count_above(stamps, counts, 0, counts.len()) == 1
 }
 
-/// In how many of so many fields, from `first` on, the one is above the other. It looks at all, so that the compiler takes several at once.
+/// In how many of `len` fields, from `first` on, the one is above the other. It looks at all, so that the compiler takes several at once.
 pub(crate) fn count_above(stamps: &[u32], counts: &[u32], first: usize, len: usize) -> u32
     requires size { length stamps.now ≡ length counts.now }
     requires within { first + len ≤ length counts.now }
@@ -72,7 +72,7 @@ pub(crate) fn count_above(stamps: &[u32], counts: &[u32], first: usize, len: usi
     above
 }
 
-/// What a member did with a message.
+/// An event of a member: it cast a message, or delivered one.
 #[derive(Debug, Drop)]
 pub enum Event {
     /// It cast the message, which counts as delivered to itself.

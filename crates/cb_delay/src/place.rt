@@ -21,7 +21,7 @@ pub enum Place {
     Free,
     /// It may be delivered.
     Ready,
-    /// It may not before so many messages of that other member are delivered.
+    /// It may not before that many messages of that other member are delivered.
     Waits { field: u32, value: u32 },
 }
 
@@ -122,7 +122,8 @@ fn first_missing(sender: u32, time: &VectorTime, now: &VectorTime) -> Option<u32
     None
 }
 
-/// Of so many members nothing is missing, but for the sender. It stops before the eight of whom something is, or before the last few.
+/// How many members come first of whom nothing is missing, but for the sender. It stops before the eight of whom something is, or before
+/// the last few.
 fn before_missing(sender: u32, stamps: &[u32], counts: &[u32]) -> u32
     requires size { length stamps.now ≡ length counts.now }
     requires few { length counts.now ≤ 64 }

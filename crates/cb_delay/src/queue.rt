@@ -144,9 +144,9 @@ impl DelayQueue {
         self.index.none_goes_with(sender)
     }
 
-    /// Hears that one more message of this sender is delivered, so that the next answer, at the time with it, finds less to do.
+    /// A hint that one more message of this sender is delivered, so that the next answer, at the time with it, finds less to do.
     ///
-    /// Answers are the same without it. What is held stays.
+    /// All answers are the same without the hint, and where it is untrue. The held messages stay.
     pub fn hear_delivered(&mut self, sender: u32)
         requires sender { sender < self.old.size }
         ensures same { Holds self.old self.new self.old.held }
@@ -204,7 +204,8 @@ impl DelayQueue {
 
     /// How many comparisons of a held message with a time `next_ready` and `leaves_waiting` have made, up to the greatest number.
     ///
-    /// To ask again at the time of the last answer adds none where nothing was held or released in between.
+    /// The two never lower it. A second question at the time of the last answer adds no comparison if nothing was held or released in
+    /// between. `hold`, `release` and `hear_delivered` add none. Tested, not proved: that each comparison is counted.
     pub fn looked(&self) -> u64
         ensures looked { result ≡ self.now.looked }
     {

@@ -91,7 +91,9 @@ impl Expander {
         Ok(Expander { times })
     }
 
-    /// The time of the sender's next cast. The faults come in the order in which they are listed, and change nothing.
+    /// The time of the sender's next cast: the sum of the increments of all its casts. `BadMember` exactly where the sender is outside
+    /// the group; else `NotNext` exactly where the number is not the sender's next; else the only error is out of memory. A fault
+    /// changes nothing.
     pub fn expand(&mut self, cast: &Cast) -> Result<VectorTime, ExpandFault>
         ensures ok { IfOk result (λ time. Expands self.old (cast_fields cast.now) time self.new) }
         ensures bad_member { (result ≡ Err ExpandFault.BadMember)

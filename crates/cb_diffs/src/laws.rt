@@ -4,14 +4,14 @@ ghost use Rattle.cb_diffs.specs.Laws.{NothingIsKept, ExpandingIsSumming, TimesAr
 ghost use Rattle.cb_diffs.specs.Returning.{DifferencesExpandBack, DifferencesAddUp};
 ghost use Rattle.cb_diffs.specs.Sent.{RepeatsChangeNothing, SentTimesAreSums};
 
-/// The one time that is kept for each sender is what all its frames add up to.
+/// Over any list of accepted casts, the one time that is kept for each sender is the sum of all its frames (`expanded_time`).
 pub fn expanding_is_summing()
     ensures start { NothingIsKept }
     ensures step { ExpandingIsSumming }
     ensures all { TimesAreSums }
 {}
 
-/// What `difference` takes of the successive times of a sender's messages expands to these times again.
+/// The differences of the successive times of a sender's messages expand to these times again.
 pub fn differences_expand_back()
     ensures expands { DifferencesExpandBack }
     ensures adds_up { DifferencesAddUp }

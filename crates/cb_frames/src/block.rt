@@ -24,7 +24,7 @@ const LONGEST_IN_BLOCK: usize = BLOCK / 4;
 pub struct FrameBlock {
     /// Where a text is made; its room is kept from one to the next.
     text: Vec<u8>,
-    /// What is left of the block.
+    /// The rest of the block.
     rest: BytesMut,
 }
 
@@ -37,8 +37,8 @@ impl FrameBlock {
         }
     }
 
-    /// The text of a cast whose payload lies elsewhere, or why it has none: what `encode` answers for the cast with this payload in place
-    /// of its own, which is not looked at.
+    /// The text of a cast whose payload is elsewhere: the answer of `encode` for the cast with this payload in place of its own, which
+    /// is not read, whatever the block encoded before.
     pub fn encode_cast(&mut self, cast: &Cast, payload: &[u8]) -> Result<Bytes, EncodeFault>
         ensures text { IfOk result (IsText (CastFrame
             (with_load (cast_fields cast.now) (One payload.now)))) }

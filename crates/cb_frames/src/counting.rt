@@ -65,7 +65,7 @@ fn count_of_burst(bytes: &[u8]) -> u32
     }
 }
 
-/// How many messages the frame carries whose text these bytes are: one of a cast, and of a burst as many as payloads. Another frame
+/// How many messages the frame carries whose text these bytes are: one of a cast, and of a burst one for each payload. Another frame
 /// carries none, nor do bytes that are no frame. It takes no memory.
 pub fn message_count(bytes: &Bytes) -> u32
     ensures { result ≡ count_read (frame_at bytes.now) }

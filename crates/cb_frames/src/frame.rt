@@ -1,4 +1,4 @@
-//! What a frame says.
+//! The content of a frame.
 
 ghost use Rattle.std.specs.Prelude.{◌≡◌, IfOk};
 ghost use Rattle.cb_frames.specs.Fields.{cast_fields, burst_fields};
@@ -55,7 +55,7 @@ pub struct Cast {
     /// How the other fields of the sender's time have grown since its previous cast, in rising order of the field.
     /// The sender's own field never stands here: it is the number.
     pub changes: Vec<Change>,
-    /// What the application sends, at most 1,024 bytes.
+    /// The application's payload, at most 1,024 bytes.
     pub payload: Bytes,
 }
 
@@ -86,7 +86,7 @@ pub struct Burst {
     /// How the other fields of the sender's time had grown before the first message, as in a `Cast`. Between the messages
     /// nothing but the number grows.
     pub changes: Vec<Change>,
-    /// What the application sends, 1 to 32 payloads in the order of their numbers, at most 1,024 bytes together.
+    /// The application's payloads, 1 to 32 in the order of their numbers, at most 1,024 bytes together.
     pub payloads: Vec<Bytes>,
 }
 
@@ -106,14 +106,14 @@ impl Burst {
     }
 }
 
-/// What carries messages: one, or several.
+/// A frame that carries messages: one, or several.
 #[derive(Debug, PartialEq, Eq, Drop)]
 pub enum Unit {
     One(Cast),
     Many(Burst),
 }
 
-/// What a member has delivered, sent to all others.
+/// A member's report of its deliveries, sent to all others.
 #[derive(Debug, PartialEq, Eq, Drop)]
 pub struct Status {
     /// The number of the group.

@@ -12,7 +12,7 @@ pub fn one_text()
     ensures exists { SomeText }
 {}
 
-/// Bytes are a frame's text, or have just one first fault. Reading from the left finds the one or the other,
+/// Any bytes are either the text of one frame or are refused with one defined fault. Reading from the left finds the one or the other,
 /// and needs no memory.
 pub fn each_is_a_text_or_a_fault()
     ensures each { EachIsTextOrFault }
@@ -33,15 +33,16 @@ pub fn messages_are_numbered()
     ensures few { CarriesFew }
 {}
 
-/// At the front of a stream stands just one of a frame behind its length, less than that, and something that is neither; and what was
-/// found there is the same, whatever follows. No frame is longer than a length may be.
+/// A stream begins with exactly one of three things: a whole frame after its length, a part of that, or bytes that are neither. A frame
+/// or a fault that was found stays, whatever bytes follow. No frame is longer than 1,456 bytes.
 pub fn a_stream_begins_with_one_thing()
     ensures longest { LongestFrame }
     ensures exact { FrontIsExact }
     ensures more { MoreChangesNothing }
 {}
 
-/// Two splits of one stream into frames and a rest are one, so the frames that a reader gives do not depend on how the stream is cut.
+/// A stream has one split into frames and a rest that has no frame at its front. Two readers that were fed the same bytes, in any
+/// pieces, and that were asked until no frame was left, returned the same frames, and find the same from then on.
 pub fn one_split()
     ensures one { OneSplit }
     ensures cuts { CutsChangeNothing }

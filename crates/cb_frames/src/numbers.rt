@@ -34,7 +34,7 @@ pub fn message_number(bytes: &[u8]) -> Result<(u32, &[u8]), FrameFault>
     Ok((message, rest))
 }
 
-/// The length of a payload, where those before have so many bytes.
+/// The length of a payload, where those before have `before` bytes.
 #[inline(always)]
 pub fn payload_length(before: usize, bytes: &[u8]) -> Result<(usize, &[u8]), FrameFault>
     requires { before ≤ LONGEST_PAYLOAD }

@@ -120,7 +120,7 @@ fn some_changes(
     Ok((Some(changes), rest))
 }
 
-/// Puts so many changes into an empty list that has room for them.
+/// Puts that number of changes into an empty list that has room for them.
 fn list_changes<'a>(
     own: Option<u32>,
     count: u32,

@@ -21,7 +21,7 @@ pub struct Place {
     pub end: usize,
 }
 
-/// The payload behind its length, where those before have so many bytes, and what is behind it.
+/// The payload after its length, where those before have that number of bytes, and the bytes after it.
 #[tactic(auto, unfolding(crate::specs::Reading::next_payload_at))]
 fn next_payload(before: usize, bytes: &[u8]) -> Result<(&[u8], &[u8]), FrameFault>
     requires { before ≤ LONGEST_PAYLOAD }

@@ -40,7 +40,7 @@ pub const REQUEST: u8 = 0x13;
 /// The first byte of a help frame.
 pub const HELP: u8 = 0x23;
 
-/// What a cast or a burst says before what it carries; out of memory without its changes.
+/// The fields of a cast or a burst before its messages; out of memory without its changes.
 #[derive(Drop)]
 struct HeadParts {
     group: u32,
@@ -92,7 +92,7 @@ struct HelpParts {
     ranges: ArrayVec<Range, MOST_RANGES>,
 }
 
-/// All of the bytes, where there are just so many.
+/// All of the bytes, where their number is just this.
 pub fn whole_payload(length: usize, bytes: &[u8]) -> Result<&[u8], FrameFault>
     ensures { Answers (λ x. x.now) result (payload_at length bytes.now) }
 {

@@ -41,7 +41,7 @@ pub struct FrameReader {
     bytes: Vec<u8>,
     /// Where the rest begins.
     start: usize,
-    /// What `next` has answered, where the stream goes on with no frame.
+    /// The fault that `next` has returned, if the stream continues with no frame.
     fault: Option<StreamFault>,
 }
 
@@ -110,7 +110,7 @@ impl FrameReader {
         }
     }
 
-    /// Moves the rest to the front, where at least as many bytes were given as it has.
+    /// Moves the rest to the front, where at least its own number of bytes was given.
     fn move_to_front(&mut self)
         ensures { self.new ≡ self.old }
     {

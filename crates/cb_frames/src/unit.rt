@@ -1,4 +1,4 @@
-//! What a unit says, be it one cast or a burst: its sender, the numbers of its messages, its changes.
+//! The content of a unit, which is one cast or a burst: its sender, the numbers of its messages, its changes.
 
 ghost use Rattle.std.specs.Prelude.{◌≡◌, IfOk, length};
 ghost use Rattle.cb_frames.specs.Fields.{unit_fields, payloads_of, first_number, last_number};
@@ -18,7 +18,7 @@ impl Unit {
         }
     }
 
-    /// Who casts, 0 to 63.
+    /// The member that casts, 0 to 63.
     pub fn sender(&self) -> u32
         ensures { result ≡ (unit_fields self.now).sender }
     {

@@ -218,7 +218,7 @@ fn put_help(out: &mut Vec<u8>, help: &Help) -> Result<(), AllocError>
     put_ranges(out, &help.ranges)
 }
 
-/// What a text has at most beside its group, the number of a cast, its changes and its payloads: the kind, numbers of members, counts,
+/// The most bytes of a text beside its group, the number of a cast, its changes and its payloads: the kind, numbers of members, counts,
 /// and the length of the one payload.
 const SMALL_FIELDS: usize = 6;
 
@@ -399,7 +399,8 @@ pub fn encode_cast_into(out: &mut Vec<u8>, cast: &Cast, payload: &[u8]) -> Resul
     Ok(())
 }
 
-/// The text of a frame, or why it has none.
+/// The text of a frame that keeps the rules. `PayloadTooLong` exactly where the payloads have more than 1,024 bytes together; `BadField`
+/// exactly where they fit and another rule is broken; else the only error is out of memory.
 pub fn encode(alloc: Global, frame: &Frame) -> Result<Bytes, EncodeFault>
     ensures text { IfOk result (λ bytes. IsText (fields_of frame.now) bytes) }
     ensures too_long { (result ≡ Err EncodeFault.PayloadTooLong)

@@ -16,7 +16,7 @@ use std::alloc::Global;
 use std::collections::VecDeque;
 use std::marker::Model;
 
-/// What became of a received unit.
+/// The answer to a received unit.
 #[derive(Clone, Copy, Debug, PartialEq, Eq, Hash)]
 pub enum Admission {
     /// It is kept until those before it are received.
@@ -85,7 +85,8 @@ impl Reorder {
         })
     }
 
-    /// A second buffer that has taken as many messages, and keeps copies of the units that this one keeps; it has room for the window.
+    /// A second buffer that has taken the same number of messages, and keeps copies of the units that this one keeps; it has room for
+    /// the window.
     ///
     /// The bytes of the payloads are shared. The only error is out of memory.
     pub fn copy(&self) -> Result<Reorder, NoMemory>
@@ -122,7 +123,8 @@ impl Reorder {
         Some(self.kept.front()?.first())
     }
 
-    /// What `keep` would answer to a unit with the numbers `first` to `last` where so many of the sender's messages are delivered.
+    /// The answer of `keep` to a unit with the numbers `first` to `last`, where `delivered` messages of the sender are delivered.
+    /// Nothing changes.
     pub fn judge(&self, delivered: u32, first: u32, last: u32) -> Admission
         ensures { Admits self.now delivered first last result }
     {

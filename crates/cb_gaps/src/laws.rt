@@ -1,9 +1,9 @@
-//! What holds of every reorder buffer and of ranges: each law is the contract of a function that does nothing.
+//! The laws of every reorder buffer and of ranges: each law is the contract of a function that does nothing.
 ghost use Rattle.cb_gaps.specs.Laws.{KeptComeOut, NoneIsLeft, OneNeverOverlaps, TakingLeavesTheRest};
 ghost use Rattle.cb_gaps.specs.Ranges.{RangesAreOneList};
 
-/// How many messages come out is known beforehand. Once a unit is kept, as many come out one after the other as `ready_with` answered
-/// for its numbers. Each call of `take_next` that gives a unit leaves its messages less, and where it gives none, none is left.
+/// How many messages come out is known beforehand. Once a unit is kept, the number that `ready_with` returned for its numbers comes out,
+/// one after the other. Each call of `take_next` that gives a unit leaves its messages less, and where it gives none, none is left.
 pub fn casts_come_out_as_reported()
     ensures kept { KeptComeOut }
     ensures rest { TakingLeavesTheRest }

@@ -1,4 +1,4 @@
-//! What may go to another thread, as contracts of functions that do nothing.
+//! The types that may be sent to another thread, as contracts of functions that do nothing.
 
 ghost use denote.Param.Send.{IsSend};
 ghost use Rattle.cb_handle.specs.contracts.held.Held.{the_row as held_row};

@@ -1,4 +1,4 @@
-//! What C holds: a member, or nothing.
+//! The handle that C holds: a member, or nothing.
 
 ghost use Rattle.std.specs.Prelude.{◌≡◌, Option, Some, None, MatchOption};
 ghost use Rattle.std.specs.Coded.{coded_option};
@@ -38,7 +38,7 @@ pub fn closed() -> Handle
     }
 }
 
-/// What the handle holds, if anything; it is closed then.
+/// Takes the member out of the handle, if it holds one; the handle is then closed.
 pub fn take(alloc: Global, handle: &mut Handle) -> Option<Box<Held, Global>>
     ensures held { MatchOption result (handle.old.held ≡ None)
         (λ held. handle.old.held ≡ Some held.value) }
@@ -65,7 +65,7 @@ fn over(boxed: Box<Held, Global>) -> Handle
     }
 }
 
-/// What the handle holds.
+/// The member that the handle holds.
 fn opened(alloc: Global, handle: Handle) -> Option<Box<Held, Global>>
     ensures { MatchOption result (handle.held ≡ None) (λ held. handle.held ≡ Some held.value) }
 {

@@ -503,7 +503,7 @@ impl Held {
     }
 }
 
-/// What is told where no further part is taken: how many were, or why the first was not.
+/// The answer where no further part is taken: how many were, or why the first was not.
 fn ended(count: usize, refusal: LoadedRefusal) -> Result<usize, LoadedRefusal>
     ensures { result ≡ if count == 0 then Err refusal else Ok count }
 {

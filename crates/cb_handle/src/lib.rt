@@ -1,4 +1,4 @@
-//! What a caller outside Rattle holds of a member: a handle, the frames of the last call, and copies into the caller's memory.
+//! The parts of a member that a caller outside Rattle holds: a handle, the frames of the last call, and copies into the caller's memory.
 //!
 //! `Held` is a member, the `Kept` of `cb_member`, with the frames of its last call and bytes that were loaded to be received in parts; its
 //! methods are those that the C library, `jolunza`, exports with codes for refusals. A `Handle` is a boxed `Held`, or nothing. Stands on

@@ -1,4 +1,4 @@
-//! What is told to C, as it lies in a caller's memory.
+//! The records that C reads, as they are in a caller's memory.
 
 /// How many there are to be read.
 #[repr(C)]
@@ -12,7 +12,7 @@ pub struct Counts {
     pub entries: usize,
 }
 
-/// What a frame that was taken did.
+/// The effect of a frame that was taken.
 #[repr(C)]
 #[derive(Clone, Copy, Debug, Default, PartialEq, Eq)]
 pub struct Received {

@@ -1,4 +1,4 @@
-//! What a member answers to a cast, an arrival, a tick, and when it is to ask a third member for what it lacks.
+//! The answers of a member to a cast, an arrival, a tick, and when it is to ask a third member for what it lacks.
 
 ghost use Rattle.std.specs.Prelude.{◌≡◌, Some};
 ghost use Rattle.cb_history.specs.Refusals.{arrive_refusal_text, burst_refusal_text, cast_refusal_text, help_fault_text, missing_fault_text, new_fault_text, tick_refusal_text};
@@ -56,9 +56,9 @@ pub struct CastDone {
 pub enum CastRefusal {
     /// The payload has more than 1,024 bytes.
     PayloadTooLong,
-    /// As many own casts as the window are not known to be delivered by every other member.
+    /// A whole window of own casts is not known to be delivered by every other member.
     WindowFull,
-    /// The history has as many entries as its limit.
+    /// The history has reached its limit.
     HistoryFull,
     /// Out of memory.
     NoMemory,
@@ -119,7 +119,7 @@ pub enum BurstRefusal {
     PayloadTooLong,
     /// With these messages more own casts than the window would not be known to be delivered by every other member.
     WindowFull,
-    /// The history has as many entries as its limit.
+    /// The history has reached its limit.
     HistoryFull,
     /// Out of memory.
     NoMemory,
@@ -166,7 +166,7 @@ pub struct Outgoing {
     pub bytes: Bytes,
 }
 
-/// What an arrival that was not refused did.
+/// The effect of an arrival that was not refused.
 #[derive(Debug, Drop)]
 pub enum Arrival {
     /// The frame was taken.
@@ -175,7 +175,7 @@ pub enum Arrival {
         deliveries: Vec<Message>,
         /// Whether the member's state changed, so that the history has an entry more.
         changed: bool,
-        /// What is to be sent in answer.
+        /// The frames to be sent in answer.
         out: Vec<Outgoing>,
     },
     /// The cast was received before, or is the member's own. Nothing changed.
@@ -197,7 +197,7 @@ pub enum ArriveRefusal {
     Overlap,
     /// The cast is numbered above what is delivered of its sender and the window.
     TooFar,
-    /// The frame would change the state, and the history has as many entries as its limit.
+    /// The frame would change the state, and the history has reached its limit.
     HistoryFull,
     /// Out of memory.
     NoMemory,
@@ -238,7 +238,7 @@ impl<T: Drop> From<AllocFailed<T>> for ArriveRefusal {
     }
 }
 
-/// What a tick did.
+/// The effect of a tick.
 #[derive(Debug, Drop)]
 pub struct Ticked {
     /// Whether the status differs from the last one, so that the history has an entry more.
@@ -250,7 +250,7 @@ pub struct Ticked {
 /// Why there was no tick. The member is as it was.
 #[derive(Clone, Copy, Debug, PartialEq, Eq)]
 pub enum TickRefusal {
-    /// The status differs from the last one, and the history has as many entries as its limit.
+    /// The status differs from the last one, and the history has reached its limit.
     HistoryFull,
     /// Out of memory.
     NoMemory,

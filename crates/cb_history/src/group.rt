@@ -46,7 +46,8 @@ impl Model for Group {
 }
 
 impl Group {
-    /// The group of this number with 2 to 64 members, each of which may be 1 to 256 casts ahead of the slowest other one.
+    /// The group of this number with 2 to 64 members, each of which may be 1 to 256 casts ahead of the slowest other one. Any other size
+    /// or window is refused, and nothing else.
     pub fn new(number: u32, size: u32, window: u32) -> Result<Group, BadGroup>
         ensures ok { IfOk result (λ group. group
             ≡ record { number = number; size = size; window = window }) }

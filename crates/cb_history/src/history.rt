@@ -1,4 +1,4 @@
-//! What a member stores: all that ever changed its state.
+//! A member's history: all calls that ever changed its state.
 
 ghost use Rattle.std.specs.Prelude.{◌≡◌, IfOk, map};
 ghost use Rattle.std.specs.Bool.{Decides};

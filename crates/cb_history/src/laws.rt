@@ -1,4 +1,4 @@
-//! What the definitions of one member imply, as contracts of functions that do nothing: a file for each subject.
+//! The laws of the definitions of one member, as contracts of functions that do nothing: a file for each subject.
 
 mod arrivals;
 mod before;

@@ -6,6 +6,9 @@
 //!
 //! Stands on `cb_frames` for the bytes, on `cb_times` and `cb_diffs` for the times, on `cb_delay` for messages and events, and on
 //! `cb_gaps` and `cb_stability` for the words in which its laws speak of ranges, reorder buffers, acknowledgements and sent windows.
+//!
+//! 121 worked examples are computed from the definitions (`proofs/Rows`, `proofs/HelpRows`). `specs/BeforeHelpers` keeps the
+//! definitions of a member from before there were help frames, which two laws compare with today's.
 #![tactic(auto)]
 
 mod answer;

@@ -1,4 +1,4 @@
-//! What every member of a group does, whichever way it keeps what it has to know.
+//! The calls of every member of a group, whichever way it keeps its state.
 
 ghost use Rattle.std.specs.Prelude.{◌≡◌, IfOk, IfErr, OnErr, Ok, map};
 ghost use Rattle.cb_frames.specs.Fields.{One};
@@ -38,7 +38,8 @@ pub trait GroupMember {
         ensures refused { IfErr result (RefusesBurst (state self.old) (many_of payloads.now)) }
         ensures same { OnErr result (state self.new ≡ state self.old) };
 
-    /// Takes received bytes. After a refusal the member is as it was.
+    /// Takes received bytes: delivers the messages that they make ready, or answers a request or a help frame. After a refusal the
+    /// member is unchanged.
     fn arrive(&mut self, bytes: &Bytes) -> Result<Arrival, ArriveRefusal>
         ensures taken { IfOk result (HasTaken (state self.old) (state self.new) bytes.now) }
         ensures refused { IfErr result (RefusesArrival (state self.old) bytes.now) }

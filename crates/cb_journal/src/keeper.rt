@@ -16,7 +16,7 @@ use std::fmt;
 /// Why an entry was not kept.
 #[derive(Clone, Copy, Debug, PartialEq, Eq)]
 pub enum KeepFault {
-    /// What keeps the entries failed.
+    /// The device that keeps the entries failed.
     Device,
     /// Out of memory.
     NoMemory,
@@ -53,7 +53,8 @@ pub trait Keeper {
     /// It has just these entries.
     ghost has: { Self → List EntryFields → Type 0 };
 
-    /// Keeps one entry more. After a fault it is asked for nothing any more.
+    /// Keeps one entry more: the keeper then has the entries that it had, and this one. After a fault it is asked for nothing any more,
+    /// and its contents are unspecified.
     fn keep(&mut self, entry: &Entry) -> Result<(), KeepFault>
         ensures { OnOk result ((entries : List EntryFields) → has self.old entries
             → has self.new (entries ++ entry_fields entry.now ∷ [])) };
@@ -78,6 +79,9 @@ impl<D: Device + Drop> Keeper for JournalWriter<D> {
     ghost has = { λ w entries.
         HasJournal (D.contents w.device) (D.lasting w.device) w.fault entries };
 
+    /// Appends the entry. If the device has the journal of a member with some entries, also after a crash, it has the journal with one
+    /// entry more before `Ok`. `NoMemory` for want of memory, else `Device`. The caller sees to it that the head line names the member
+    /// of these entries.
     #[tactic(auto, using(crate::proofs::Refusals::not_kept))]
     fn keep(&mut self, entry: &Entry) -> Result<(), KeepFault>
         // Of a journal of some entries it becomes that of these and one more.

@@ -1,4 +1,4 @@
-//! What a crash leaves of a journal, as contracts of functions that do nothing.
+//! The state of a journal after a crash, as contracts of functions that do nothing.
 
 ghost use Rattle.cb_journal.specs.Laws.{OneJournal, CutsAreBeginnings, LegalEntriesHaveLines, CrashesLeaveLegal};
 

@@ -7,6 +7,9 @@
 //! `JournalWriter` is one.
 //!
 //! Stands on `cb_history` for histories and on `cb_lines` for the lines, which are those of traces.
+//!
+//! Not proved: what a file contains, since no clause can name a file. `append` promises what it does with any device whose bytes are
+//! known, and whose `sync` makes the bytes last. It is a premise on the disk that a crash keeps a beginning of what was written.
 #![tactic(auto)]
 
 mod device;

@@ -12,7 +12,7 @@ use cb_history::{History, Identity};
 use cb_lines::{entry_of, first_line};
 use std::alloc::Global;
 
-/// What stood in a journal.
+/// The content of a journal.
 #[derive(Debug, Drop)]
 pub struct Journal {
     /// The member, and the entries of all whole lines.
@@ -23,7 +23,8 @@ pub struct Journal {
     pub torn: usize,
 }
 
-/// The journal that these bytes are. A last line without its line feed is left out, and told by its length.
+/// The journal that these bytes are, with the lengths of its whole lines and of a torn last line, which is left out. `NoHead` only where
+/// there is no line feed, `BadLine` only with the first whole line that is not what must be there.
 ///
 /// The entries need not be those of a legal history; only the group, the numbers and the names are within their limits.
 pub fn read_journal(alloc: Global, bytes: &[u8]) -> Result<Journal, ReadFault>
@@ -48,7 +49,7 @@ fn read(alloc: Global, bytes: &[u8]) -> Result<Journal, ReadFault>
     }
 }
 
-/// The journal of this member, which has so many bytes, by those behind its head line.
+/// The journal of this member, which has that number of bytes, by those after its head line.
 fn entries_of(
     alloc: Global,
     total: usize,

@@ -87,7 +87,11 @@ impl<D: Device + Drop> JournalWriter<D> {
         })
     }
 
-    /// Writes the entry's line, and makes it outlast a crash.
+    /// Appends the entry's line to the journal, and returns `Ok` once it outlasts a crash.
+    ///
+    /// After a fault a beginning of the line may be at the end. From the first fault on the same fault is returned and nothing is
+    /// written. `NoMemory` wherever the line was not made, and only with the device unchanged; `Write` and `Sync` only where the line
+    /// was made, `Sync` with all of it written.
     pub fn append(&mut self, entry: &Entry) -> Result<(), AppendFault>
         // The journal of some entries becomes that of these and one more.
         ensures text { (seat : IdentityOf) (entries : List EntryFields)
@@ -189,7 +193,7 @@ fn synced<D: Device>(device: &mut D) -> Result<(), AppendFault>
     }
 }
 
-/// Cuts the device behind so many bytes, which then outlast a crash alone.
+/// Cuts the device after that number of bytes, which alone then outlast a crash.
 fn cut_to<D: Device>(device: &mut D, length: u64) -> Result<(), AppendFault>
     ensures cut { OnOk result (KeepsFront length (D.contents device.old) (D.contents device.new)) }
     ensures lasts { OnOk result (Keeps (D.contents device.new) (D.lasting device.new)) }

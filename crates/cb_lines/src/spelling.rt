@@ -1,4 +1,4 @@
-//! What a line says. Each is read in its one spelling.
+//! The meaning of a line. Each is read in its one spelling.
 
 ghost use Rattle.std.specs.Prelude.{◌≡◌, IfOk, map};
 ghost use Rattle.std.specs.Bool.{Decides};
@@ -19,7 +19,7 @@ use std::alloc::Global;
 /// How many words the line of a group has.
 const GROUP_WORDS: usize = 8;
 
-/// The group of its line, which comes without its line feed.
+/// The group of its line, which comes without its line feed. `NoLine` only where it is no group's line.
 pub fn group_of(alloc: Global, line: &[u8]) -> Result<Group, LineFault>
     ensures { Finds AreParameters group_line (λ group. group) line.now result }
 {
@@ -57,7 +57,7 @@ pub fn parameters_of(number: &[u8], size: &[u8], window: &[u8]) -> Result<Group,
     }
 }
 
-/// An entry, by its line without the line feed.
+/// The entry of its line, which comes without its line feed. `NoLine` only where it is no entry's line.
 pub fn entry_of(alloc: Global, line: &[u8]) -> Result<Entry, LineFault>
     ensures { Finds IsEntry entry_line entry_fields line.now result }
 {

@@ -33,7 +33,7 @@ pub struct ChannelInlet {
 #[derive(Drop)]
 struct Arrivals {
     from: Mailbox<Vec<Bytes>>,
-    /// What was taken out, and is not handed on yet.
+    /// Frames that were taken out of the mailbox and are not received yet.
     came: IntoIter<Bytes>,
 }
 
@@ -152,8 +152,8 @@ impl WaitingInlet for ChannelInlet {
     }
 }
 
-/// What was taken is received. Of a mailbox that was closed, or whose senders are gone, nothing has
-/// waited yet.
+/// Receives a frame that was taken. Of a mailbox that was closed, or whose senders are gone,
+/// nothing has waited yet.
 fn received(rt: &impl Clock, taken: Taken<Bytes>, longest: Duration) -> Received {
     match taken {
         Taken::Message(frame) => Received::Frame(frame),

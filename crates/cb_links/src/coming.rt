@@ -23,7 +23,7 @@ pub struct Coming<S> {
 }
 
 impl<S: Read + Drop> Coming<S> {
-    /// One that is open. It takes no memory.
+    /// An end that is open. It takes no memory.
     pub fn new(alloc: Global, stream: S) -> Coming<S>
         ensures stream { result.stream ≡ Some stream }
         ensures reader { result.reader ≡ record { rest = []; fault = None } }
@@ -34,7 +34,8 @@ impl<S: Read + Drop> Coming<S> {
         }
     }
 
-    /// The next frame, or none where it has not come whole. A stream that is closed gives none.
+    /// The next frame, or none where it has not come whole. A stream that is closed gives none. It
+    /// reads at most 4,096 bytes, and only where no frame is there.
     ///
     /// `Device` where the stream failed or ended, or where something else than a frame came;
     /// `NoMemory` where a frame found none. Each closes the stream.

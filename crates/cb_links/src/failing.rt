@@ -63,7 +63,7 @@ impl Calls {
         fails
     }
 
-    /// All failures, with so many of the device that is called.
+    /// All failures, with this number of the device that is called.
     fn failures(&self, inner: u64) -> u64
         ensures { result ≡ failures_of inner self.now }
     {

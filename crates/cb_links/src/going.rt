@@ -19,12 +19,12 @@ const _: () = prove!(MOST == LONGEST_FRAME + 2);
 #[derive(Drop)]
 pub struct Going<S> {
     stream: S,
-    /// What the stream has not taken yet of the frame that was taken last.
+    /// The bytes of the last taken frame that the stream has not taken yet.
     rest: Vec<u8>,
 }
 
 impl<S: Write + Drop> Going<S> {
-    /// With room for one frame. The only fault is out of memory.
+    /// An end that is open, with room for one frame. The only fault is out of memory.
     pub fn new(alloc: Global, stream: S) -> Result<Going<S>, AllocError>
         ensures stream { IfOk result (λ going. going.stream ≡ stream) }
         ensures rest { IfOk result (λ going. going.rest.items ≡ []) }

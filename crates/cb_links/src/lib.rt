@@ -7,6 +7,15 @@
 //!
 //! Stands on `cb_history` for what is sent, on `cb_frames` for what a frame is and on
 //! `crossbeam_channel`. Nothing says that a frame arrives.
+//!
+//! Only tested: that a frame comes whole and to the right members, that frames come in the order of
+//! the mailbox, that its reader sleeps over no message, how long an inlet waits. Over TCP: that a
+//! frame is offered to the right connections, that an inlet asks each connection before it returns
+//! `Nothing`, that a connection takes no part of a frame that it refuses, that an end or a fault of
+//! the system closes a connection and a wait does not, that connections are asked in turn, and that a
+//! stranger who connects is dropped. For `FailInlet` and `FailOutlet`: that every other call reaches
+//! the link inside. Neither proved nor tested: that the room of a connection for one frame stays, so
+//! that `send` over TCP never returns `NoMemory`.
 #![tactic(auto)]
 
 mod channel;

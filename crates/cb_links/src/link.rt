@@ -18,7 +18,7 @@ use std::{fmt, io};
 /// Any port of the loopback address, which the system chooses.
 pub const ANY_PORT: &str = "127.0.0.1:0";
 
-/// What an inlet found.
+/// The answer of an inlet.
 #[derive(Debug, PartialEq, Eq, Drop)]
 pub enum Received {
     /// The bytes of a frame.
@@ -30,7 +30,7 @@ pub enum Received {
 /// Why a link took or gave no frame.
 #[derive(Clone, Copy, Debug, PartialEq, Eq)]
 pub enum LinkFault {
-    /// What carries the frames failed.
+    /// The device that carries the frames failed.
     Device,
     /// Out of memory.
     NoMemory,
@@ -84,7 +84,8 @@ pub trait Inlet {
         ensures { result ≡ failed self.now };
 
     /// The next frame, where one is there or comes within about a millisecond. A received frame is
-    /// handed out once, or lost with a fault.
+    /// returned once, or is lost with a fault. Each answer `Device` is one failure more, and
+    /// nothing else is.
     fn receive<R: Wait + Clock>(&mut self, rt: &R) -> Result<Received, LinkFault>
         ensures rises { failed self.old ≤ failed self.new }
         ensures fault { IfErr result (λ fault. LinkCounts fault (failed self.old)
@@ -92,9 +93,8 @@ pub trait Inlet {
         ensures counted { MatchResult result (λ _. failed self.new ≡ failed self.old)
             (λ fault. failed self.new ≡ failures_with (failed self.old) fault) };
 
-    /// Takes no more frames: those that wait there are dropped, and one that is
-    /// sent here from now on is lost. By default nothing is done, for an inlet in which not more
-    /// than so much can gather.
+    /// Takes no more frames: those that wait there are dropped, and one that is sent here from now
+    /// on is lost. By default it does nothing, which is right for inlets with a bounded buffer.
     fn close(&mut self)
         ensures { failed self.new ≡ failed self.old }
     {}
@@ -127,7 +127,8 @@ pub trait Outlet {
         ensures { result ≡ failed self.now };
 
     /// Sends a frame to the member that it names, or to all others. One to all is offered to each
-    /// of them, even where another one fails.
+    /// of them, even where another one fails. An answer `Device` is one failure more or several,
+    /// one for each member to which the frame could not be sent. No other answer is a failure.
     fn send<R: Wait>(&mut self, rt: &R, out: &Outgoing) -> Result<(), LinkFault>
         ensures rises { failed self.old ≤ failed self.new }
         ensures fault { IfErr result (λ fault. LinkCounts fault (failed self.old)
@@ -290,7 +291,8 @@ impl Offered {
         }
     }
 
-    /// Both.
+    /// The outcome of two offers: their failures are added, and memory was refused if it was for
+    /// one of them.
     pub fn and(self, other: Offered) -> Offered
         ensures { result ≡ both self other }
     {

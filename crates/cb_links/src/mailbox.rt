@@ -13,7 +13,7 @@ use std::sync::{Arc, Wait};
 use std::thread::Parker;
 use std::time::Duration;
 
-/// Where so many messages have gathered, more are not waited for. Those of links are lists of
+/// A look waits for no more messages once this number has gathered. Those of links are lists of
 /// frames.
 pub const ENOUGH_GATHERED: usize = 2;
 
@@ -39,7 +39,7 @@ pub struct Mailbox<M> {
     reader: Arc<Reader>,
 }
 
-/// What was taken out.
+/// The answer to a look into a mailbox.
 #[derive(Drop)]
 pub enum Taken<M> {
     Message(M),

@@ -18,7 +18,7 @@ use std::net::{Net, SocketAddr, TcpListener, TcpStream};
 use std::sync::Wait;
 use std::time::Clock;
 
-/// So many connections are accepted before that of a member: strangers may come first.
+/// How many connections are accepted before that of a member: strangers may come first.
 const STRANGERS: u32 = 16;
 
 /// Links over TCP.
@@ -49,7 +49,7 @@ impl TcpLink {
     /// A link for each member of a group of this size, in the order of their numbers.
     ///
     /// The system needs two descriptors for each two members that are connected, each way: `Device`
-    /// where it has not so many, or where another program takes up the ports.
+    /// where it has too few, or where another program takes up the ports.
     pub fn group<N: Net<Listener = TcpListener, Stream = TcpStream>>(
         net: &N,
         alloc: Global,

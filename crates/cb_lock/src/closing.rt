@@ -28,7 +28,7 @@ pub struct CloseRefusal {
     pub member: Member,
 }
 
-/// What is wrong at closing: the first that fits, in this order.
+/// The faults of closing: the first that fits is returned, in this order.
 #[derive(Clone, Copy, Debug, PartialEq, Eq)]
 pub enum CloseFault {
     /// There are more entries than receipts in these seats: one of the seats is missing.
@@ -59,7 +59,7 @@ impl fmt::Display for CloseFault {
 
 impl Error for CloseFault {}
 
-/// What is wrong with these seats, if anything.
+/// The fault of these seats, if they have one.
 pub(crate) fn fault_of<L: Ledger>(
     identity: Identity,
     member: &Member,

@@ -1,4 +1,4 @@
-//! What the lock of a shared member keeps.
+//! The state under the lock of a shared member.
 
 ghost use Rattle.std.specs.Prelude.{◌≡◌, ◌+◌, ◌≤◌, ◌<◌, [], IfOk, IfErr, OnErr, OnOk, length, map, option_map};
 ghost use Rattle.std.specs.Vec.{vec_capacity, vec_len};
@@ -275,7 +275,7 @@ impl<L: Ledger> Held<L> {
         &self.member
     }
 
-    /// Changes nothing. What the seat has receipts of, the history has.
+    /// Learns that the history has every entry of which the seat has a receipt. Nothing changes.
     pub fn audit(&mut self, seat: &mut Seat<L>)
         ensures same { self.new ≡ self.old }
         ensures seat { seat.new ≡ seat.old }

@@ -6,6 +6,10 @@
 //!
 //! Stands on `cb_member` for the member and its definitions, and on std's mutex and ledger. Its calls may wait for the lock; nothing
 //! says that a lock is ever got, or who came first. `docs/GUIDE.md` says call by call what a thread may rely on.
+//!
+//! Only tested: that a locked call answers from the history under its own lock, that two members have two locks, and that seats which
+//! are used as they should be never meet `OtherMember` or `ReceiptMismatch`. No clause names the member under a lock; `close` compares
+//! it.
 #![tactic(auto)]
 
 mod closing;

@@ -1,4 +1,4 @@
-//! What is cast in one step, and what became of it.
+//! The payloads of one cast, and its outcome.
 
 use cb_member::{BurstDone, BurstRefusal, CastDone, CastRefusal};
 

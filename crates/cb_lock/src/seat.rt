@@ -1,4 +1,4 @@
-//! What a caller of a shared member holds.
+//! The seat of a caller of a shared member.
 
 ghost use Rattle.std.specs.Prelude.{◌≡◌, ◌+◌, ◌∷◌, ◌++◌, ◌≤◌, [], IfOk, OnOk, length, map};
 ghost use Rattle.std.specs.Vec.{vec_len};
@@ -10,7 +10,7 @@ use std::alloc::Global;
 use std::marker::Model;
 use std::sync::ledger::{Ledger, Share};
 
-/// What a caller has in hand of a change that it made: the entry, and its place in the member's history.
+/// A caller's record of a change that it made: the entry, and its place in the member's history.
 #[derive(Debug, PartialEq, Eq, Drop)]
 pub struct Receipt {
     /// Entry 1 is the first.

@@ -33,7 +33,8 @@ pub struct SharedMember<L: Ledger> {
 }
 
 impl<L: Ledger> SharedMember<L> {
-    /// A member without entries behind a lock of its own, with the first seat, which has every part of the ledger.
+    /// A member without entries behind a lock of its own, with the first seat, which has every part of the ledger. `close` looks for the
+    /// group and the number of this member.
     pub fn new(alloc: Global, blank: Blank, member: Member) -> (SharedMember<L>, Seat<L>)
         requires name { blank.name ≡ L.name }
         requires parts { blank.parts ≡ L.parts }

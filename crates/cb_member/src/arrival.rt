@@ -1,4 +1,4 @@
-//! What a member does with a received frame. The rules of each kind stand in a file of its own.
+//! The rules for a received frame. The rules of each kind have a file of their own.
 
 ghost use Rattle.std.specs.Prelude.{◌≡◌, nat_lt};
 ghost use Rattle.std.specs.List.{list_all};

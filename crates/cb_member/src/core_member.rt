@@ -63,7 +63,8 @@ impl Model for CoreMember {
 }
 
 impl CoreMember {
-    /// A member that did nothing yet.
+    /// A member that did nothing yet. `BadMember` exactly where the group has no member of this number; else the only error is out of
+    /// memory.
     pub fn new(alloc: Global, group: Group, me: u32) -> Result<CoreMember, NewFault>
         ensures seat { IfOk result (λ core. core.seat ≡ record { group = group; me = me }) }
         ensures empty { IfOk result (StandsFor []) }
@@ -131,8 +132,8 @@ impl CoreMember {
         self.state.acknowledged_by(k)
     }
 
-    /// Whether another member k keeps this one's window full: of as many of its last casts as the window is wide it is not known to have
-    /// delivered any.
+    /// Whether another member k keeps this one's window full: k is not known to have delivered any of this member's last casts, a whole
+    /// window of them.
     pub fn keeps_window_full(&self, k: u32) -> bool
         ensures { OnEach self.now (λ m. result ≡ keeps_window_full_in m k) }
     {
@@ -155,7 +156,8 @@ impl CoreMember {
         self.state.waits_for(i)
     }
 
-    /// The casts of member i that are missing, as rising ranges that neither touch nor overlap.
+    /// The casts of member i that are missing, as rising ranges that neither touch nor overlap. `BadMember` exactly where i is this
+    /// member or the group has no member i.
     pub fn missing(&self, i: u32) -> Result<Vec<Range>, MissingFault>
         ensures ranges { IfOk result (λ ranges. OnEach self.now (λ m. ranges.items
             ≡ ranges_of (missing_in m i))) }

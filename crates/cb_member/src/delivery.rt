@@ -1,4 +1,4 @@
-//! What a member has delivered, and what waits for the delay rule.
+//! The deliveries of a member, and the messages that wait for the delay rule.
 
 ghost use Rattle.std.specs.Prelude.{◌≡◌, ◌+◌, ◌<◌, ◌≤◌, ◌++◌, ◌∷◌, [], true, false, IfOk, IfSome, IfNone, length};
 ghost use Rattle.std.specs.FinMap as map;
@@ -14,7 +14,7 @@ use cb_delay::{DelayQueue, Event, Message};
 use cb_times::{NoMemory, VectorTime};
 use std::alloc::Global;
 
-/// What a member has delivered, and the messages that wait.
+/// The deliveries of a member, and the messages that wait.
 #[derive(Drop)]
 pub struct Delivery {
     /// How many messages of each member are delivered, own casts included.

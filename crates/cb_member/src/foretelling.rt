@@ -1,4 +1,4 @@
-//! What would be delivered were some more messages held, told by copies of just that. What is delivered and held stays.
+//! The deliveries that some more held messages would cause, as copies of just these. The delivered and held messages stay.
 
 ghost use Rattle.std.specs.Prelude.{◌≡◌, ◌<◌, ◌↔◌, IfOk, IfSome, IfNone, None, true, false, length};
 ghost use Rattle.cb_delay.specs.Lists.{IsRun};

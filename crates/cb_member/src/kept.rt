@@ -60,7 +60,8 @@ impl Model for Kept {
 }
 
 impl Kept {
-    /// A member without entries. It keeps no history where that may have none.
+    /// A member without entries, which keeps no history if the limit is 0. `BadMember` exactly where the group has no member of this
+    /// number, else `BadLimit` exactly for a limit above 16,777,216; else the only error is out of memory.
     pub fn new(alloc: Global, group: Group, me: u32, history_max: usize) -> Result<Kept, NewFault>
         ensures new { IfOk result (IsNew group me history_max) }
         ensures may { IfOk result (λ kept. (me < group.size) × (history_max ≤ longest_history)) }
@@ -82,7 +83,8 @@ impl Kept {
         }
     }
 
-    /// The member of this core, which stands for these entries; where it keeps no history, they can be read until its next call.
+    /// The member of this core, with these entries and events to be read. A history that is kept must be one of the core's, with its
+    /// events, and no longer than the limit (`IsKept`). Without a history the entries and events can be read until the next call.
     pub fn resumed(core: CoreMember, limit: usize, entries: Vec<Entry>, events: Vec<Event>) -> Kept
         requires { IsKept (kept_of core limit entries.items events.items) }
         ensures { result ≡ kept_of core limit entries.items events.items }
@@ -189,8 +191,8 @@ impl Kept {
         }
     }
 
-    /// Takes received bytes, and tells what they did. What the call before left to be read may stay also without a history. After a
-    /// refusal nothing has changed.
+    /// Takes received bytes, and returns their effect. The events of the call before may stay also without a history. After a refusal
+    /// nothing has changed.
     pub fn receive(&mut self, bytes: &Bytes, stays: bool) -> Result<Received, ArriveRefusal>
         ensures done { IfOk result (HasReceivedBehind stays self.old self.new bytes.now) }
         ensures refused { IfErr result (λ refusal. OnEach self.old (λ m.
@@ -339,8 +341,8 @@ impl Kept {
         self.core.acknowledged_by(member)
     }
 
-    /// Whether another member keeps the window full: of as many of the last own casts as the window is wide it is not known to have
-    /// delivered any.
+    /// Whether another member keeps the window full: it is not known to have delivered any of the last own casts, a whole window of
+    /// them.
     pub fn keeps_window_full(&self, member: u32) -> bool
         ensures { OnEach self.now (λ m. result ≡ keeps_window_full_in m member) }
     {
@@ -397,7 +399,7 @@ impl Kept {
     }
 }
 
-/// The history has as many entries as it may have.
+/// The history has reached its limit.
 fn is_full(limit: usize, entries: &Vec<Entry>) -> bool
     ensures { result ≡ (not (limit == 0) && nat_le limit (length entries.now.items)) }
 {

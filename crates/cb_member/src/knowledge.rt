@@ -1,4 +1,4 @@
-//! What a member knows of the others.
+//! A member's knowledge of the others.
 
 ghost use Rattle.std.specs.Prelude.{◌≡◌, ◌<◌, IfOk, length};
 ghost use Rattle.std.specs.List.{All};

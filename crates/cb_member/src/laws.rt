@@ -1,4 +1,4 @@
-//! What follows of cores, as contracts of functions that do nothing.
+//! The laws of cores, as contracts of functions that do nothing.
 
 ghost use Rattle.cb_member.specs.CoreRuns.{CoresAnswerByTheirHistory, NoNumberIsLeft};
 ghost use Rattle.cb_member.specs.Helping.{AsksOneOfThese, HelpIsAmongAll};

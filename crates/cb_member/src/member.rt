@@ -49,7 +49,8 @@ impl Model for Member {
 }
 
 impl Member {
-    /// A member without entries, whose history may have 1 to 16,777,216 of them.
+    /// A member without entries, whose history may have 1 to 16,777,216 of them. `BadMember` exactly where the group has no member of
+    /// this number, else `BadLimit` exactly for another limit; else the only error is out of memory.
     pub fn new(alloc: Global, group: Group, me: u32, history_max: usize) -> Result<Member, NewFault>
         ensures ok { IfOk result (λ member. member
             ≡ state_of (record { group = group; me = me }) history_max []) }
@@ -129,8 +130,8 @@ impl Member {
         self.kept.acknowledged_by(k)
     }
 
-    /// Whether another member k keeps this one's window full: of as many of its last casts as the window is wide it is not known to have
-    /// delivered any.
+    /// Whether another member k keeps this one's window full: k is not known to have delivered any of this member's last casts, a whole
+    /// window of them.
     pub fn keeps_window_full(&self, k: u32) -> bool
         ensures { result ≡ keeps_window_full_in self.now k }
     {
@@ -153,7 +154,8 @@ impl Member {
         self.kept.waits_for(i)
     }
 
-    /// The casts of member i that are missing, as rising ranges that neither touch nor overlap.
+    /// The casts of member i that are missing, as rising ranges that neither touch nor overlap. `BadMember` exactly where i is this
+    /// member or the group has no member i.
     pub fn missing(&self, i: u32) -> Result<Vec<Range>, MissingFault>
         ensures ranges { IfOk result (λ ranges. ranges.items ≡ ranges_of (missing_in self.now i)) }
         ensures bad_member { (result ≡ Err MissingFault.BadMember)

@@ -1,4 +1,4 @@
-//! What whoever runs a member reads of it: who keeps its window full, how many messages wait, and what for.
+//! Readings for the program that runs a member: which members keep its window full, how many messages wait, and for which ones.
 //!
 //! No reading takes memory, and none changes anything.
 
@@ -54,7 +54,7 @@ impl State {
         }
     }
 
-    /// Whether k is another member that has the last casts of this one still to deliver, as many as the window is wide.
+    /// Whether k is another member that has a whole window of the last casts of this one still to deliver.
     pub fn keeps_window_full(&self, k: u32) -> bool
         requires { IsState self.now }
         ensures { OnAll self.now (λ facts. result ≡ keeps_window_full self.now.seat facts k) }

@@ -1,4 +1,4 @@
-//! What is answered to received bytes.
+//! The answer to received bytes.
 
 ghost use Rattle.std.specs.Prelude.{◌≡◌, []};
 ghost use Rattle.cb_history.specs.Answers.{arrival_says};
@@ -8,7 +8,7 @@ use cb_delay::Message;
 use cb_history::{Arrival, Outgoing};
 use std::alloc::Global;
 
-/// What a received frame did that was not refused.
+/// The effect of a received frame that was not refused.
 #[derive(Debug, Drop)]
 pub enum Received {
     /// The frame was taken.
@@ -17,7 +17,7 @@ pub enum Received {
         delivered: usize,
         /// Whether the member's state changed, so that the history has an entry more.
         changed: bool,
-        /// What is to be sent in answer.
+        /// The frames to be sent in answer.
         out: Vec<Outgoing>,
     },
     /// The cast was received before, or is the member's own. Nothing changed.
@@ -43,7 +43,7 @@ impl Received {
         }
     }
 
-    /// What is to be sent in answer.
+    /// The frames to be sent in answer.
     pub fn out(self, alloc: Global) -> Vec<Outgoing>
         ensures { result.items ≡ sent_by (received_says self []) }
     {

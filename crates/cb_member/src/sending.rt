@@ -1,4 +1,4 @@
-//! What a member sent.
+//! The frames that a member sent.
 
 ghost use Rattle.std.specs.Prelude.{◌≡◌, ◌↔◌, ◌<◌, IfOk, true, false, length};
 ghost use Rattle.cb_times.specs.Group.{IsGroupSize, IsWindow};

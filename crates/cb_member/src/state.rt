@@ -16,9 +16,9 @@ use cb_stability::Relays;
 use cb_times::NoMemory;
 use std::alloc::Global;
 
-/// What a member knows: each part is what `specs/` says of the facts in its history, which it does not keep.
+/// The state of a member: each part is defined in `specs/` by the facts in its history, which it does not keep.
 ///
-/// What its calls promise they promise of all facts that it may stand for.
+/// Its calls keep their promises for all facts that it may stand for.
 #[derive(Drop)]
 pub struct State {
     pub alloc: Global,

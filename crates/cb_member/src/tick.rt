@@ -1,4 +1,4 @@
-//! What a tick sends: the status to all, and to each other member a request for what is missing of it.
+//! The frames of a tick: the status to all, and to each other member a request for what is missing of it.
 
 ghost use Rattle.std.specs.Prelude.{◌≡◌, ◌≢◌, ◌<◌, IfOk, option_to_list};
 ghost use Rattle.cb_frames.specs.Fields.{status_fields, StatusFrame};

@@ -27,7 +27,8 @@ pub enum Wanted {
     Both,
 }
 
-/// What is asked for of received bytes, besides what they do. It is passed on as it is, so that a program has no code for what it never asks.
+/// The copies that a caller wants of received bytes, besides their effect. It is passed on unchanged, so that a program has no code for
+/// copies that it never asks for.
 #[derive(Clone, Copy, Drop)]
 pub enum Asked {
     Nothing,
@@ -43,7 +44,7 @@ pub enum Asked {
 }
 
 impl Asked {
-    /// What is asked for where the entry is to join entries that may be full, and once more for a copy.
+    /// The request of a caller whose entries may be full, and once more for a copy.
     pub fn within(full: bool, wanted: Wanted) -> Asked
         ensures joins { joins_entries result ≡ true }
         ensures may_add { may_add result ≡ not full }
@@ -219,7 +220,7 @@ impl Made {
     }
 }
 
-/// What a tick sends, and a copy of the entry that it adds, where one is wanted.
+/// The frames of a tick, and a copy of the entry that it adds, where one is wanted.
 #[derive(Drop)]
 pub struct Told {
     pub ticked: Ticked,
@@ -234,7 +235,7 @@ impl Told {
     }
 }
 
-/// What received bytes did, and copies of what they deliver; none where they were not asked for.
+/// The effect of received bytes, and copies of their deliveries; no copies where none were asked for.
 #[derive(Drop)]
 pub struct Taken {
     pub received: Received,

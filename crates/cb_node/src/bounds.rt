@@ -45,7 +45,7 @@ impl Error for BadBounds {}
 
 impl Bounds {
     /// The time from a tick with news to the next one, and the longest one that it grows to while
-    /// ticks bring none.
+    /// ticks bring none. `Ok` exactly where 1 millisecond ≤ `quick` ≤ `slow` ≤ 1 hour.
     pub fn new(quick: Duration, slow: Duration) -> Result<Bounds, BadBounds>
         ensures ok { IfOk result (λ bounds. (bounds.quick ≡ quick) × (bounds.slow ≡ slow)) }
         ensures good { IsOk result ↔ AreBounds (as_nanos quick) (as_nanos slow) }

@@ -30,7 +30,7 @@ use std::alloc::Global;
 pub struct Desk {
     pub alloc: Global,
     pub member: Member,
-    /// What is to be sent: a list for each call that was made since the last time all was sent.
+    /// The frames to be sent: a list for each call since the last time that all was sent.
     pub post: Vec<Vec<Outgoing>>,
     /// How many entries are kept: all, but where one could not be.
     pub written: usize,
@@ -337,7 +337,8 @@ pub fn for_all(bytes: Bytes) -> Outgoing
     Outgoing { to: None, bytes }
 }
 
-/// What a refusal is to a turn: a full history and want of memory hinder it, all else is dropped.
+/// The effect of a refusal on a turn: a full history and want of memory hinder it, all else is
+/// dropped.
 fn hindered_by(refusal: ArriveRefusal) -> Result<(), TurnFault>
     ensures { MatchResult result (λ _. hindrance refusal ≡ None)
         (λ fault. hindrance refusal ≡ Some fault) }

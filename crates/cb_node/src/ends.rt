@@ -10,7 +10,7 @@ use std::sync::Wait;
 use std::thread::sleep;
 use std::time::{Clock, Duration};
 
-/// What a node counts of its link. The counts stay at their greatest value.
+/// A node's counts of its link. The counts stay at their greatest value.
 #[derive(Clone, Copy, Debug, PartialEq, Eq)]
 pub struct Counts {
     /// Frames that were offered to the link.
@@ -34,6 +34,7 @@ pub struct Ends<I, O> {
 }
 
 impl<I, O> Ends<I, O> {
+    /// The two ends of a link, and counts of nothing.
     pub fn new(link: (I, O)) -> Ends<I, O>
         ensures { result.counts ≡ none_counted }
     {

@@ -1,4 +1,4 @@
-//! What ends a cast or hinders a turn.
+//! Faults that end a cast or hinder a turn.
 
 ghost use Rattle.std.specs.Prelude.{◌≡◌, Some};
 ghost use Rattle.cb_node.specs.FaultText.{burst_fault_text, cast_fault_text, turn_fault_text};
@@ -29,8 +29,8 @@ pub enum NodeBurstFault {
     NotKept(KeepFault),
 }
 
-/// What hindered a turn. The turn was made all the same as far as it could be: what was delivered
-/// is handed out.
+/// The hindrance of a turn. The turn was still made as far as it could be: its deliveries are in
+/// the news.
 #[derive(Clone, Copy, Debug, PartialEq, Eq)]
 pub enum TurnFault {
     /// A frame or the status would be an entry more than the history may have. Begin anew under

@@ -45,6 +45,7 @@ impl KeptMember {
         }
     }
 
+    /// The member.
     pub fn member(&self) -> &Member
         ensures member { result.now ≡ self.now.member }
         ensures kept { IsKeptState self.now }
@@ -52,6 +53,7 @@ impl KeptMember {
         &self.desk.member
     }
 
+    /// The member, for good.
     pub fn into_member(self) -> Member
         ensures { result ≡ self.member }
     {
@@ -91,14 +93,14 @@ impl KeptMember {
         }
     }
 
-    /// What is to be sent, in lists, one behind the other.
+    /// The frames to be sent, in lists, in order.
     pub fn post(&self) -> &[Vec<Outgoing>]
         ensures { frames_in result.now ≡ self.now.post }
     {
         &self.desk.post
     }
 
-    /// All was sent.
+    /// Forgets the frames to be sent, since all were sent.
     pub fn clear_post(&mut self)
         ensures { self.new ≡ record self.old { post = [] } }
     {
@@ -147,7 +149,7 @@ impl KeptMember {
         self.desk.cast_burst(keeper, payloads)
     }
 
-    /// Ticks.
+    /// Ticks: its status and its requests are to be sent, once the entry of the tick is kept.
     pub fn tick<K: Keeper>(&mut self, keeper: &mut K) -> Result<(), TurnFault>
         ensures ticked { OnOk result (TicksIn (work_of self.old) (work_of self.new)) }
         ensures same { OnErr result (work_of self.new ≡ work_of self.old) }

@@ -7,6 +7,20 @@
 //!
 //! Stands on `cb_member` for the member and on `cb_links` for the link. Nothing says that a frame
 //! arrives or when; `docs/GUIDE.md` shows a program's loop.
+//!
+//! Private clauses promise the parts of a turn. Received bytes are taken, or are refused and counted
+//! by the member's reason; a full history and want of memory hinder the turn, other reasons do not
+//! (`Desk::take`). A tick posts the status and the requests that the member answers. After each fourth
+//! tick, and after the fourth and each later one of ticks in a row without news, the help frames for
+//! the missing casts of each member follow (`Node::tick`, `Desk::help`). A tick is due once the time
+//! between two ticks has passed since the last one, and at once before the first one or where the
+//! clock can't be read (`Pacing`). After n ticks in a row without news that time is the quick one
+//! times 2^n, at most the slow one (`Bounds::time_after`). Frames that the link did not take, and its
+//! faults, are counted by their kinds (`Counts`).
+//!
+//! Only tested: that the frames which are offered are those of that list; that what the link gives is
+//! given to the member; that a turn ticks when a tick is due; that a node sleeps, also after a fault
+//! of the inlet; which of two hindrances of a turn is returned.
 #![tactic(auto)]
 
 mod bounds;

@@ -1,8 +1,8 @@
-//! What was cast.
+//! The names of cast messages.
 
 use cb_member::{Name, VectorTime};
 
-/// What was cast: messages whose numbers follow one another.
+/// The messages of a cast, whose numbers follow one another.
 #[derive(Debug, Drop)]
 pub struct Named {
     /// The name of the first.

@@ -24,7 +24,7 @@ use std::alloc::Global;
 use std::sync::Wait;
 use std::time::{Clock, Duration};
 
-/// So many frames are taken in one turn at most.
+/// The most frames that are taken in one turn.
 pub const MOST_FRAMES: u32 = 64;
 
 /// A member, its link and its pace, driven from one thread.
@@ -97,7 +97,7 @@ impl<I, O, K> Node<I, O, K> {
         self.kept.member()
     }
 
-    /// What was cast and delivered between the ends of the last two turns, in order.
+    /// The events between the ends of the last two turns, in order.
     pub fn news(&self) -> &[Event]
         ensures { result.now ≡ between self.now.from self.now.to (events_in self.now.kept.member) }
     {
@@ -119,7 +119,7 @@ impl<I, O, K> Node<I, O, K> {
         &self.ends.inlet
     }
 
-    /// What was sent and received.
+    /// The counts of sent and received frames.
     pub fn counts(&self) -> Counts
         ensures { result ≡ self.now.ends.counts }
     {
@@ -154,8 +154,9 @@ impl<I: Drop, O: Drop, K> Node<I, O, K> {
 }
 
 impl<I: WaitingInlet, O: Outlet, K: Keeper> Node<I, O, K> {
-    /// Casts a message of this payload, of up to 1,024 bytes. Its frame is sent by the next turn,
-    /// and it stands among that turn's news.
+    /// Casts a message of this payload, of up to 1,024 bytes, and returns its name and time. The
+    /// next turn sends its frame, and has the event among its news. The refusals are the member's,
+    /// or `NoMemory`. After any fault no frame waits for it, and the same entries are kept.
     pub fn cast(&mut self, payload: &[u8]) -> Result<Named, NodeCastFault>
         ensures done { IfOk result (HasNamedCast self.old.kept self.new.kept (One payload.now)) }
         ensures refused { IfErr result
@@ -183,11 +184,17 @@ impl<I: WaitingInlet, O: Outlet, K: Keeper> Node<I, O, K> {
         self.kept.cast_burst(&mut self.keeper, payloads)
     }
 
-    /// Sends what waits, takes what comes, ticks when a tick is due, sends again, and hands out what
-    /// was cast and delivered since the last turn: `news` has it.
+    /// Sends what waits, takes what comes, ticks when a tick is due, sends again, and makes `news`
+    /// the events that were cast and delivered since the last turn: none is left out, and none
+    /// comes twice.
     ///
     /// Where nothing is there it sleeps in the link until something comes or a tick is due, and no
-    /// longer than `longest`. Faults of the link are counted. A fault says what hindered the turn.
+    /// longer than `longest`. Faults of the link are counted. `Ok` only where the entry of each
+    /// call was kept, and no frame was refused because the history is full or for want of memory.
+    ///
+    /// The keeper has the member's history, entry by entry, until a `keep` fails. From then on the
+    /// turn returns `NotKept`, nothing of that entry is sent or shown, and the keeper's contents
+    /// are unspecified.
     pub fn turn<R: Wait + Clock>(&mut self, rt: &R, longest: Duration) -> Result<(), TurnFault>
         ensures turned { HasTurned self.old.kept self.new.kept self.old.ends.counts.offered
             self.new.ends.counts.offered self.old.to self.new.to
@@ -236,7 +243,7 @@ impl<I: WaitingInlet, O: Outlet, K: Keeper> Node<I, O, K> {
         self.kept.clear_post();
     }
 
-    /// Takes frames until none is there, or so many. Waits only for the first one.
+    /// Takes frames until none is there, or that number is taken. Waits only for the first one.
     fn listen<R: Wait + Clock>(&mut self, rt: &R, longest: Duration) -> Result<(), TurnFault>
         ensures gone { HasGone self.old.kept self.new.kept self.old.ends.counts.offered
             self.new.ends.counts.offered }
@@ -312,7 +319,7 @@ impl<I: WaitingInlet, O: Outlet, K: Keeper> Node<I, O, K> {
     }
 }
 
-/// What the clock says, where it can be read.
+/// The time of the clock, where it can be read.
 pub fn now(rt: &impl Clock) -> Option<Duration> {
     rt.monotonic().ok()
 }

@@ -27,7 +27,7 @@ pub struct Pacing {
 }
 
 impl Pacing {
-    /// No tick was made.
+    /// The pace of a member that made no tick.
     pub fn new(bounds: Bounds) -> Pacing
         ensures { result ≡ none_made bounds }
     {
@@ -67,15 +67,15 @@ impl Pacing {
         self.bounds.time_after(idle)
     }
 
-    /// A tick is tried.
+    /// Notes the moment of a tick, or that the clock could not be read.
     pub fn try_at(&mut self, now: Option<Duration>)
         ensures { self.new ≡ record self.old { last = now } }
     {
         self.last = now;
     }
 
-    /// A tick was made, after which there are this many entries. Whether third members are to be asked
-    /// after it.
+    /// Counts a tick after which the member has this many entries. Returns whether third members
+    /// are to be asked after it.
     pub fn count(&mut self, entries: usize) -> bool
         ensures counted { self.new ≡ with_tick self.old entries }
         ensures helps { result ≡ asks_thirds self.new }

@@ -1,4 +1,4 @@
-//! What was received and refused, counted by its kind.
+//! Refused frames, counted by their kinds.
 
 ghost use Rattle.std.specs.Prelude.{◌≡◌};
 ghost use Rattle.cb_node.specs.Refusing.{none_refused, with_refusal};
@@ -19,7 +19,7 @@ pub struct Refused {
 }
 
 impl Refused {
-    /// Nothing was refused yet.
+    /// Counts of no refused frame.
     pub fn none() -> Refused
         ensures { result ≡ none_refused }
     {
@@ -35,7 +35,7 @@ impl Refused {
         }
     }
 
-    /// One more frame was refused.
+    /// The counts with one more frame, by the reason of its refusal.
     pub fn and(self, refusal: ArriveRefusal) -> Refused
         ensures { result ≡ with_refusal self refusal }
     {

@@ -19,7 +19,7 @@ pub struct Attempts {
 }
 
 impl Attempts {
-    /// None was made since the last one that did not fail, and the next is due at once.
+    /// No attempt failed since the last one that succeeded, and the next is due at once.
     pub fn none_made() -> Attempts
         ensures { result ≡ none_made }
     {
@@ -29,7 +29,7 @@ impl Attempts {
         }
     }
 
-    /// The next one may be made now.
+    /// Whether the next attempt may be made now.
     pub fn is_due(&self, now: u64) -> bool
         ensures { IsTrue result ↔ (self.now.due ≤ now) }
     {
@@ -43,7 +43,8 @@ impl Attempts {
         self.due.saturating_sub(now)
     }
 
-    /// One failed now. The pause behind it is twice the one before, and at most the longest.
+    /// Counts an attempt that failed now. The next pause is twice the last one: 10 milliseconds at
+    /// first, and never more than a second.
     pub fn fail(&mut self, now: u64)
         ensures { self.new ≡ with_failure self.old now }
     {

@@ -16,7 +16,7 @@ const VERSION: u8 = 1;
 /// How many bytes a hello has: the mark, the version, and five numbers of four bytes.
 pub const HELLO_LENGTH: usize = 28;
 
-/// What all members of a group must agree on.
+/// The terms that all members of a group must agree on.
 #[derive(Clone, Copy, Debug, PartialEq, Eq)]
 pub struct Terms {
     /// The group's number.
@@ -27,7 +27,7 @@ pub struct Terms {
     pub window: u32,
 }
 
-/// What one end of a connection says first.
+/// The first bytes from one end of a connection, 28 of them.
 #[derive(Clone, Copy, Debug, PartialEq, Eq)]
 pub struct Hello {
     /// The member that says it.
@@ -40,7 +40,7 @@ pub struct Hello {
 /// Why two ends do not go on with a connection.
 #[derive(Clone, Copy, Debug, PartialEq, Eq)]
 pub enum Disagreement {
-    /// What came is no hello.
+    /// The bytes are no hello.
     NotOurs,
     /// It is one of another version.
     Version,
@@ -160,7 +160,7 @@ impl Hello {
         }
     }
 
-    /// What is said in answer to this hello by member `me`, whose terms these are.
+    /// The answer of member `me`, whose terms these are, to this hello.
     pub fn answer(self, me: u32, terms: Terms) -> Hello
         ensures { result ≡ record { from = me; to = self.from; terms = terms } }
     {

@@ -6,7 +6,7 @@ ghost use Rattle.cb_peers.specs.Hellos.{disagreement};
 use crate::hello::{Disagreement, Hello};
 use std::alloc::{AllocError, Global};
 
-/// What a hello's bytes are read as is that hello. The only fault is out of memory.
+/// A hello's bytes are read as that hello. The only fault is out of memory.
 pub fn is_read_as_written(
     alloc: Global,
     hello: Hello,

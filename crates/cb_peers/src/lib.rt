@@ -1,5 +1,5 @@
-//! What a member must know to talk to others in other processes: their addresses (`Peers`), what both
-//! ends of a connection say first (`Hello`) and when to call again (`Attempts`).
+//! Contact with members in other processes: their addresses (`Peers`), the first bytes from both
+//! ends of a connection (`Hello`) and when to call again (`Attempts`).
 //!
 //! It has no sockets and no clock: `cb_remote` makes links of it. It stands on nothing.
 #![tactic(auto)]

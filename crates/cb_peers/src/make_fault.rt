@@ -10,7 +10,7 @@ use std::error::Error;
 use std::io::ErrorKind;
 use std::{fmt, io};
 
-/// A process has as many descriptors open as it may have (EMFILE), or the system has (ENFILE).
+/// The process has no descriptor left (EMFILE), or the system has none (ENFILE).
 const PROCESS_IS_FULL: i32 = 24;
 
 const SYSTEM_IS_FULL: i32 = 23;

@@ -23,8 +23,9 @@ impl Peers {
     /// those at which it knows the others. The others may know it at another address than the one
     /// that it binds: a member may bind `0.0.0.0`, for all of its interfaces.
     ///
-    /// `BadMember` and `BadAddresses` say what is wrong with them, `NoMemory` comes where they are
-    /// right. There is no other fault.
+    /// `BadMember` exactly where the group has not 2 to 64 members or has no member `me`. Else
+    /// `BadAddresses` exactly where there is not one address for each member, two are alike, a port
+    /// is 0, or IPv4 and IPv6 are mixed. Else the only error is out of memory.
     pub fn new(
         alloc: Global,
         size: u32,
@@ -68,7 +69,7 @@ impl Peers {
         &self.others
     }
 
-    /// Another member has this address.
+    /// Whether another member has this address.
     pub fn is_other(&self, address: SocketAddr) -> bool
         ensures { IsTrue result ↔ Contains self.now.others.items (Some address) }
     {

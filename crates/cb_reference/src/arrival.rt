@@ -32,7 +32,7 @@ use cb_history::{Arrival, ArriveRefusal, Entry, Message as Delivery, Names, Outg
 use cb_times::NoMemory;
 use std::alloc::Global;
 
-/// What an arrival did, and the entry that it adds.
+/// The effect of an arrival, and the entry that it adds.
 #[derive(Drop)]
 pub struct Accepting {
     pub arrival: Arrival,

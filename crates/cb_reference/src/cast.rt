@@ -32,7 +32,7 @@ use cb_history::{BurstDone, BurstRefusal, Entry};
 use cb_times::{Name, NoMemory, VectorTime};
 use std::alloc::Global;
 
-/// What is cast: one payload, or those of a burst.
+/// The payloads of a cast: one, or those of a burst.
 #[derive(Clone, Copy, Drop)]
 pub enum Load<'a> {
     One(&'a [u8]),
@@ -157,7 +157,7 @@ fn next_number(seen: &[Message<'_>], k: u32) -> u32
     count(seen, k) as u32 + 1
 }
 
-/// What the next own cast says before what it carries.
+/// The fields of the next own cast before its messages.
 #[derive(Drop)]
 pub struct Head {
     pub group: u32,

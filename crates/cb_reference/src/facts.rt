@@ -1,4 +1,4 @@
-//! What the entries say.
+//! The facts of the entries.
 
 ghost use Rattle.std.specs.Prelude.{◌≡◌, ◌≤◌, IfOk, map, length};
 ghost use Rattle.cb_history.specs.Read.{frame_read};
@@ -14,7 +14,7 @@ use cb_history::Entry;
 use cb_times::NoMemory;
 use std::alloc::{AllocError, Global};
 
-/// What an entry says.
+/// The fact of an entry.
 #[derive(Drop)]
 pub enum Fact {
     /// The member cast this.
@@ -76,7 +76,7 @@ fn said_by(alloc: Global, entry: &Entry) -> Result<Option<Fact>, NoMemory>
     }
 }
 
-/// What the entries say, in their order.
+/// The facts of the entries, in their order.
 pub fn facts_of(alloc: Global, entries: &[Entry]) -> Result<Vec<Fact>, NoMemory>
     ensures facts { IfOk result (λ facts. map fact_of facts.items
         ≡ facts_of (map entry_fields entries.now)) }

@@ -62,7 +62,7 @@ fn help_to(
     })
 }
 
-/// What is sent for the missing casts of member i.
+/// The frame sent for the missing casts of member i.
 fn help_for(past: &Past<'_>, i: u32) -> Result<Option<Outgoing>, NoMemory>
     requires { i < past.now.seat.group.size }
     ensures { IfOk result (λ help. help ≡ help_for past.now.seat (facts_in past.now) i

@@ -1,4 +1,4 @@
-//! What the member knows of the others.
+//! The member's knowledge of the others.
 
 ghost use Rattle.std.specs.Prelude.{◌≡◌, ◌≤◌, ◌+◌, ◌-◌, not, IfOk, map, filter};
 ghost use Rattle.std.specs.List.{flat_map};
@@ -43,7 +43,7 @@ fn reported_of(i: u32, fact: &Fact) -> u32
     }
 }
 
-/// What the facts say of how far sender i has cast.
+/// How far sender i has cast, by the facts.
 #[tactic(auto, using(crate::proofs::Numbers::greatest_more))]
 fn reported(facts: &[Fact], i: u32) -> u32
     ensures { result ≡ greatest_of (flat_map (reported_of i) (map fact_of facts.now)) }
@@ -55,7 +55,7 @@ fn reported(facts: &[Fact], i: u32) -> u32
     greatest
 }
 
-/// What the times say of it that can be known.
+/// How far it has cast, by the times that can be known.
 fn counted_in_times(casts: &Casts<'_>, i: u32) -> u32
     ensures { result ≡ greatest_of (counted_in_times casts.now i) }
 {
@@ -98,7 +98,7 @@ fn reported_by(k: u32, i: u32, fact: &Fact) -> u32
     }
 }
 
-/// What the statuses of member k say of how many casts of member i it has delivered.
+/// How many casts of member i the statuses of member k report as delivered.
 #[tactic(auto, using(crate::proofs::Numbers::greatest_more))]
 fn reported_in_statuses(facts: &[Fact], k: u32, i: u32) -> u32
     ensures { result ≡ greatest_of (flat_map (reported_by k i) (map fact_of facts.now)) }
@@ -110,7 +110,7 @@ fn reported_in_statuses(facts: &[Fact], k: u32, i: u32) -> u32
     greatest
 }
 
-/// What the times of the delivered messages of member k say of it.
+/// The same by the times of the delivered messages of member k.
 fn counted_by(casts: &Casts<'_>, seen: &[Message<'_>], k: u32, i: u32) -> u32
     ensures { result ≡ greatest_of (counted_by casts.now
         (map carried_of seen.now) k i) }
@@ -242,7 +242,7 @@ fn ranges_of(alloc: Global, numbers: &[u32]) -> Result<Vec<Range>, NoMemory>
     Ok(ranges)
 }
 
-/// What is missing of member i, as ranges.
+/// The missing casts of member i, as ranges.
 pub fn missing(past: &Past<'_>, i: u32) -> Result<Vec<Range>, NoMemory>
     ensures ranges { IfOk result (λ ranges. ranges.items ≡ ranges_of (missing_in past.now i)) }
     ensures rules { IfOk result (λ ranges. AreRanges 1 ranges.items) }

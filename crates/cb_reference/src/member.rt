@@ -112,7 +112,7 @@ impl ReferenceMember {
         }
     }
 
-    /// No entry is left.
+    /// Whether no entry is left.
     pub fn is_full(&self) -> bool
         ensures { result ≡ nat_le self.now.limit (length self.now.entries) }
     {
@@ -363,7 +363,7 @@ impl GroupMember for ReferenceMember {
     }
 }
 
-/// What is said of a cast of one message.
+/// The outcome of a cast of one message.
 fn as_one(done: BurstDone) -> CastDone
     ensures { result ≡ record { name = done.first; time = done.time; out = done.out } }
 {

@@ -1,4 +1,4 @@
-//! What was read of a member's history, once for each call.
+//! The content of a member's history, read once for each call.
 
 ghost use Rattle.std.specs.Prelude.{◌≡◌, ◌≤◌, IfOk, map, length};
 ghost use Rattle.cb_history.specs.State.{time_in, view_in, IsMemberState, facts_in};
@@ -45,7 +45,7 @@ impl<'a> Model for Past<'a> {
 }
 
 impl<'a> Past<'a> {
-    /// What these facts of the member lead to.
+    /// The state after these facts of the member.
     pub fn of(member: &'a ReferenceMember, facts: &'a [Fact]) -> Result<Past<'a>, NoMemory>
         requires { map fact_of facts.now ≡ facts_in member.now }
         ensures { IfOk result (λ past. past ≡ member.now) }
@@ -106,7 +106,7 @@ impl<'a> Past<'a> {
         self.member.allocator()
     }
 
-    /// What the entries say.
+    /// The facts of the entries.
     pub fn facts(&self) -> &[Fact]
         ensures facts { map fact_of result.now ≡ facts_in self.now }
         ensures few { length result.now ≤ longest_history }

@@ -1,4 +1,4 @@
-//! What a tick sends: the status, and the requests for what is missing.
+//! The frames of a tick: the status, and the requests for missing casts.
 
 ghost use Rattle.std.specs.Prelude.{◌≡◌, ◌⊎◌, ◌≤◌, ◌<◌, ◌==◌, nat_lt, IfOk, IfErr, IsSome, Ok, Err, Some, None, ◌∷◌, filter, length, map, take, option_map, option_to_list, if◌then◌else◌};
 ghost use Rattle.std.specs.List.{list_all, range_with_len};
@@ -179,7 +179,7 @@ fn reported(past: &Past<'_>, bytes: Bytes) -> Result<Vec<Outgoing>, NoMemory>
     Ok(out)
 }
 
-/// What a tick did, and the entry that it adds, where it adds one.
+/// The effect of a tick, and the entry that it adds, where it adds one.
 #[derive(Drop)]
 pub struct Ticking {
     pub done: Ticked,

@@ -1,4 +1,4 @@
-//! What the member has delivered, by a walk over the facts.
+//! The deliveries of the member, by a walk over the facts.
 
 ghost use Rattle.std.specs.Prelude.{◌≡◌, ◌≤◌, ◌==◌, ◌&&◌, ◌++◌, IfOk, OnOk, map, min, ℕ};
 ghost use Rattle.std.specs.List.{list_any};
@@ -155,7 +155,7 @@ fn drain<'a>(size: u32, casts: &Casts<'a>, seen: &mut Vec<Message<'a>>) -> Resul
     Ok(())
 }
 
-/// What one more fact makes of the casts and of the messages seen.
+/// The effect of one more fact on the casts and on the messages seen.
 fn see<'a>(
     alloc: Global,
     size: u32,

@@ -1,4 +1,4 @@
-//! What the two ends of a connection say first.
+//! The first bytes from the two ends of a connection.
 
 ghost use Rattle.std.specs.Prelude.{◌≡◌, ◌≤◌, [], Decides, IfErr, IfOk, length, take};
 ghost use Rattle.std.specs.Io.KnownBytes.{Consumes};
@@ -16,9 +16,9 @@ use std::io::{ErrorKind, Read, Write};
 #[derive(Drop)]
 pub struct Greeter<S> {
     stream: S,
-    /// What has not gone yet of what this end says.
+    /// The bytes of this end that are not sent yet.
     unsaid: Vec<u8>,
-    /// What has come of what the other end says.
+    /// The bytes of the other end that have come.
     heard: Vec<u8>,
 }
 
@@ -27,7 +27,7 @@ pub struct Greeter<S> {
 pub enum GreetFault {
     /// It could not be made, or has ended.
     Gone,
-    /// What came is no hello of this version.
+    /// The bytes are no hello of this version.
     Disagrees(Disagreement),
     NoMemory,
 }

@@ -15,7 +15,7 @@ use std::alloc::Global;
 use std::net::{Net, SocketAddr};
 use std::{io, mem, net};
 
-/// So many milliseconds a call may take until it is answered.
+/// How many milliseconds a call may take until it is answered.
 const ANSWER_TIME: u64 = 5_000;
 
 /// Who a member is, and what it says of its group.
@@ -48,7 +48,7 @@ enum State {
     Up(Coming<net::TcpStream>),
 }
 
-/// What has become of a call.
+/// The outcome of a call.
 #[derive(Drop)]
 pub enum Answer {
     NotYet,
@@ -139,7 +139,7 @@ impl Line {
         Ok(greeter)
     }
 
-    /// What this member says to the other one.
+    /// This member's hello to the other one.
     fn hello(&self, local: &Local) -> Hello {
         Hello {
             from: local.me,

@@ -19,14 +19,14 @@ use std::net::{Net, SocketAddr};
 use std::sync::{Arc, Mutex, Wait};
 use std::time::{Clock, Duration};
 
-/// So many calls are accepted at once.
+/// How many calls are accepted at once.
 const MOST_AT_ONCE: u32 = 64;
 
-/// So many who called and have not said who they are may wait. The next one takes the place of the
+/// How many callers that have not said who they are may wait. The next one takes the place of the
 /// first.
 const MOST_VISITORS: usize = 64;
 
-/// So many events are taken at once.
+/// How many events are taken at once.
 const MOST_EVENTS: usize = 128;
 
 /// The door, among the tokens of members.
@@ -76,7 +76,7 @@ pub struct Refusal {
 }
 
 impl TcpPeers {
-    /// The link of the member whose peers these are, in a group of as many members.
+    /// The link of the member whose peers these are, in a group of the same size.
     ///
     /// `BadMember` where the group has another size than the peers are. `AddressInUse`, `NoRoute`
     /// and `Denied` say what is wrong with the member's own address, `TooManyFiles` comes where the
@@ -112,7 +112,7 @@ impl TcpPeers {
     }
 }
 
-/// What all members of the group agree on.
+/// The terms that all members of the group agree on.
 fn terms_of(group: &Group) -> Terms
     ensures { result ≡ record {
       group = group.now.number;
@@ -127,7 +127,7 @@ fn terms_of(group: &Group) -> Terms
     }
 }
 
-/// What both ends of the link share.
+/// The state that both ends of the link share.
 fn shared(alloc: Global, ends: Ends) -> Result<Arc<Mutex<Ends>>, AllocError> {
     match Arc::new(alloc, Mutex::new(ends)) {
         Ok(ends) => Ok(ends),
@@ -302,7 +302,7 @@ impl<N: Net + Drop> TcpPeerInlet<N> {
         }
     }
 
-    /// What is said to who speaks another version: it is not known who that is.
+    /// The hello to an end of another version, whose member is not known.
     fn to_anybody(&self) -> Hello {
         Hello {
             from: self.local.me,

@@ -26,7 +26,7 @@ const ROOM: usize = 1_457;
 
 const _: () = prove!(ROOM == LONGEST_FRAME + 1);
 
-/// So many datagrams that are no frames are passed over in one call.
+/// How many datagrams that are no frames are passed over in one call.
 const MOST_PASSED_OVER: u32 = 64;
 
 /// Links over UDP.
@@ -54,13 +54,13 @@ pub struct UdpPeerOutlet {
     failures: u64,
 }
 
-/// What one look at a socket finds.
+/// The result of one look at a socket.
 #[derive(Drop)]
 enum Found {
     Frame(Bytes),
     /// Nothing is there.
     Nothing,
-    /// What was there was no frame. More may be there.
+    /// The datagram was no frame. More may be there.
     NoFrame,
 }
 

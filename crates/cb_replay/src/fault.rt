@@ -16,7 +16,7 @@ pub enum ResumeFault {
     BadMember,
     /// The limit is not 1 to 16,777,216.
     BadLimit,
-    /// There are so many entries, more than the limit.
+    /// The number of entries, which is more than the limit.
     TooLong { entries: usize },
     /// This entry, counted from 1, is the first that no call adds to those before it.
     NotLegal { entry: usize },

@@ -1,4 +1,4 @@
-//! What the frame of a cast carries.
+//! The payloads of a cast's frame.
 
 ghost use Rattle.std.specs.Prelude.{◌≡◌, ◌∷◌, ◌++◌, [], IfOk, OnOk, map};
 ghost use Rattle.cb_history.specs.Read.{frame_read};
@@ -10,7 +10,7 @@ use cb_frames::{Frame, FrameFault, decode};
 use cb_times::NoMemory;
 use std::alloc::{AllocError, Global};
 
-/// What the frame of a cast carries: the kind of the frame says which, whatever the number of payloads.
+/// The payloads of a cast's frame: the kind of the frame says which, whatever the number of payloads.
 #[derive(Drop)]
 pub enum Load {
     One(Bytes),

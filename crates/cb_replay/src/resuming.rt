@@ -13,10 +13,11 @@ use crate::replaying::replay;
 use cb_member::{Group, History, LONGEST_HISTORY, Member, NewFault};
 use std::alloc::Global;
 
-/// The member of this history, whose history may have 1 to 16,777,216 entries in all. It answers as the member that did all this: its
-/// state is a function of its history.
+/// The member that has just this history, whose history may have 1 to 16,777,216 entries in all. It answers as the member that did all
+/// this: its state is a function of its history.
 ///
-/// Time grows with the entries, each of which is one call again.
+/// `Ok` only where the history is legal; else the first fault that holds, in the order of `ResumeFault`. `NoMemory` only in place of
+/// `NotLegal` and of the member. Time grows with the entries, each of which is one call again.
 pub fn resume(alloc: Global, history: History, history_max: usize) -> Result<Member, ResumeFault>
     ensures { SaysResumed (seat_in history) history_max
         (map entry_fields history.entries.items) result }
@@ -29,7 +30,7 @@ pub fn resume(alloc: Global, history: History, history_max: usize) -> Result<Mem
     }
 }
 
-/// Whether there is such a member with room for so many entries. This takes no memory.
+/// Whether there is such a member with room for that number of entries. This takes no memory.
 fn judge(history: &History, history_max: usize) -> Result<(), ResumeFault>
     ensures ok { OnOk result (CanHold (seat_in history.now) history_max
         (map entry_fields history.now.entries.items)) }

@@ -87,10 +87,12 @@ impl Returning {
     }
 }
 
-/// The core of this history, however long. It answers as the member that did all this. Where the history is not in memory as a whole, or the
-/// events are wanted, `Returning` takes its entries one by one.
+/// The core of this history, however long it is. It answers as the member that did all this. Where the history is not in memory as a
+/// whole, or the events are wanted, `Returning` takes its entries one by one.
 ///
-/// Time grows with the entries, each of which is one call again.
+/// `Ok` only where each entry is the one that some call adds to those before it; `BadMember` where the group has no such member,
+/// `NotLegal` with the first entry that no call adds. `NoMemory` only in place of `NotLegal` and of the core. Time grows with the
+/// entries, each of which is one call again.
 #[tactic(auto, using(crate::proofs::Returns::core_is_back))]
 pub fn resume_core(alloc: Global, history: &History) -> Result<CoreMember, ResumeFault>
     ensures { SaysCoreResumed (seat_in history.now) (map entry_fields history.now.entries.items)

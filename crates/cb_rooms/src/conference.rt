@@ -24,7 +24,7 @@ use std::marker::Model;
 /// The most lines of a screen.
 pub const LONGEST_SCREEN: usize = 1000;
 
-/// What one member was shown: the lines of each room, and the last ones for a screen.
+/// The messages that one member was shown: the lines of each room, and the last ones for a screen.
 ///
 /// Give `show` each message of the member, its own casts among them, in the order of the member's events. `compose` makes the
 /// payload of a line, to be cast. `rooms`, `lines` and `screen` read. All but `lines` may be out of memory, and a call that
@@ -236,7 +236,7 @@ impl Conference {
         Some(self.rooms.get(room)?.as_slice())
     }
 
-    /// The last lines over all rooms as they are printed, each ended by a line feed: as many as the screen has, or all there are.
+    /// The last lines over all rooms as they are printed, each ended by a line feed: a whole screen, or all there are.
     /// The only error is out of memory.
     pub fn screen(&self) -> Result<String, NoMemory>
         ensures { IfOk result (λ text. string_bytes text

@@ -21,7 +21,7 @@ pub enum ConferenceFault {
 /// Why a line has no payload here. Where several hold, the first of this list is answered.
 #[derive(Clone, Copy, Debug, PartialEq, Eq, Hash)]
 pub enum ComposeFault {
-    /// What is said has a room that can't have that name.
+    /// The room can't have that name.
     BadRoom,
     /// The question of an answer has no line here.
     UnknownQuestion,

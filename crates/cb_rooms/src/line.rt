@@ -1,4 +1,4 @@
-//! What a message of a conference says.
+//! The content of a conference's message.
 
 ghost use Rattle.std.specs.Prelude.{◌≡◌};
 ghost use Rattle.std.specs.List.{list_all};

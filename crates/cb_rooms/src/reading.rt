@@ -21,7 +21,7 @@ fn number(bytes: &[u8]) -> Option<(u32, &[u8])>
     Some((value, &bytes[length..]))
 }
 
-/// So many bytes, and those behind them.
+/// That number of bytes, and those after them.
 fn parts(length: usize, bytes: &[u8]) -> Option<(&[u8], &[u8])>
     ensures { option_map (λ x. (x.0.now, x.1.now)) result ≡ parts_at length bytes.now }
 {

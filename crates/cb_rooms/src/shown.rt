@@ -10,11 +10,11 @@ pub struct Shown {
     pub name: Name,
     /// The message that it answers, where it is an answer.
     pub question: Option<Name>,
-    /// What it says.
+    /// The text of the line.
     pub text: String,
 }
 
-/// What became of a message that was shown.
+/// The outcome of showing a message.
 #[derive(Clone, Copy, Debug, PartialEq, Eq, Hash)]
 pub enum Showing {
     /// Its name has a line already.

@@ -1,4 +1,4 @@
-//! What is proved of every schedule, as contracts of functions that do nothing: a file for each subject.
+//! The laws of every schedule, as contracts of functions that do nothing: a file for each subject.
 
 mod forgetting;
 mod frames;

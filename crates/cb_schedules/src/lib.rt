@@ -6,6 +6,10 @@
 //! contracts of functions that do nothing. The same is said of a group of cores, members that keep no history. It has no program.
 //!
 //! Stands on `cb_history` for the members' answers and on `cb_causality` for the machines of causal broadcast.
+//!
+//! The premises: one fixed group with the same parameters everywhere, and no frame is received that was not sent just so. The
+//! laws of rounds also suppose that the rounds are run, with all their arrivals, and, of members that keep histories, that none
+//! is full. No law promises that any frame arrives.
 #![tactic(auto)]
 
 mod laws;

@@ -83,7 +83,8 @@ impl Acks {
         })
     }
 
-    /// From now on it is kept how much of this sender is stable, for who asks that often. What is known stays.
+    /// Keeps from now on how much of this sender is stable, for a caller that asks often. All that is known stays, so no answer depends
+    /// on which sender is watched.
     pub fn watch(&mut self, sender: u32)
         requires { sender < self.old.size }
         ensures { self.new ≡ self.old }
@@ -92,10 +93,10 @@ impl Acks {
         self.watched = sender;
     }
 
-    /// This member is known to have delivered so many casts of this sender.
+    /// Records that this member has delivered that many casts of this sender.
     ///
-    /// Its count becomes the greater of what it was and `delivered`, so that a report that comes late changes nothing. All
-    /// other counts stay.
+    /// Its count becomes the greater of what it was and `delivered`, so that a report that comes late changes nothing. All other counts
+    /// stay.
     pub fn learn(&mut self, member: u32, sender: u32, delivered: u32)
         requires of_group { member < self.old.size }
         requires from_group { sender < self.old.size }
@@ -107,9 +108,10 @@ impl Acks {
         }
     }
 
-    /// This member is known to have delivered as many casts of each sender as the time says.
+    /// Records that this member has delivered the number of casts of each sender that the time counts.
     ///
-    /// Each of its counts becomes the greater of what it was and the sender's field, as if all were given to `learn`.
+    /// Each of its counts becomes the greater of what it was and the sender's field, as if all were given to `learn`. It takes no
+    /// memory.
     pub fn learn_time(&mut self, member: u32, time: &VectorTime)
         requires of_group { member < self.old.size }
         requires of_time { length time.now ≡ self.old.size }

@@ -70,8 +70,8 @@ impl HelperWindow {
         })
     }
 
-    /// Keeps a frame under the next `count` numbers: the first number put is 1. Where all places are taken the oldest frame
-    /// is dropped.
+    /// Keeps a frame under the next `count` numbers: the first number put is 1. If all places are taken, the oldest frame is dropped. It
+    /// takes no memory.
     pub fn put(&mut self, count: u32, frame: Bytes)
         requires some { 1 ≤ count }
         requires numbers { self.old.put + count ≤ LAST_NUMBER }
@@ -87,10 +87,10 @@ impl HelperWindow {
         });
     }
 
-    /// Lets go of the numbers up to `number`, this one included, and of the frames that have none above it.
+    /// Frees the numbers up to `number`, this one included, and the frames that have none above it.
     ///
-    /// Numbers that were trimmed before or never put are no fault: past the end it empties the window, and the next frame
-    /// put still gets the number after the last one put.
+    /// Numbers that were trimmed before or never put are no fault: past the end the window becomes empty, and the next frame put still
+    /// gets the number after the last one put.
     pub fn trim(&mut self, number: u32)
         ensures { Trims self.old self.new number }
     {

@@ -66,8 +66,8 @@ impl Relays {
         })
     }
 
-    /// Keeps the frame of the messages with these numbers, in front of the first frame that begins above it. Where all
-    /// places are taken, the first frame is let go before. All others stay.
+    /// Keeps the frame of the messages with these numbers, before the first frame that begins above it. If all places are taken, the
+    /// first frame is freed first. All others stay.
     ///
     /// It takes no memory, and where no frame begins above it no frame is moved.
     pub fn put(&mut self, first: u32, last: u32, frame: Bytes)
@@ -84,7 +84,7 @@ impl Relays {
         place(&mut self.frames, frame);
     }
 
-    /// Lets go of the frames at the front that have no number above `stable`. All others stay.
+    /// Frees the frames at the front that have no number above `stable`. All others stay.
     pub fn trim(&mut self, stable: u32)
         ensures window { self.new.window ≡ self.old.window }
         ensures kept { self.new.kept ≡ behind_stable stable self.old.kept }

@@ -30,7 +30,7 @@ impl Spanned {
     }
 }
 
-/// A ring of the same frames, with as many places.
+/// A ring of the same frames, with the same number of places.
 pub fn copies(frames: &HeapCircularBuffer<Spanned>) -> Result<HeapCircularBuffer<Spanned>, NoMemory>
     ensures { IfOk result (λ copies. copies ≡ frames.now) }
 {

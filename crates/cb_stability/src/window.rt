@@ -93,10 +93,10 @@ impl SentWindow {
         });
     }
 
-    /// Lets go of the numbers up to `number`, this one included, and of the frames that have none above it.
+    /// Frees the numbers up to `number`, this one included, and the frames that have none above it.
     ///
-    /// Numbers that were trimmed before or never put are no fault: past the end it empties the window, and the next frame
-    /// put still gets the number after the last one put.
+    /// Numbers that were trimmed before or never put are no fault: past the end the window becomes empty, and the next frame put still
+    /// gets the number after the last one put.
     pub fn trim(&mut self, number: u32)
         ensures { Trims self.old self.new number }
     {

@@ -1,4 +1,4 @@
-//! What comes of a try to cast, and what is to be cast again behind a refusal.
+//! The outcome of a try to cast, and the payloads to retry after a refused cast.
 
 ghost use Rattle.std.specs.Prelude.{◌≡◌, IfOk, MatchResult, None, Some, false, if◌then◌else◌, true};
 ghost use Rattle.cb_lock.specs.declared.payloads.Payloads.TheVariants.{Many, One};
@@ -27,7 +27,7 @@ pub fn outcome(tried: Tried) -> Result<Bytes, Option<Payloads>>
     }
 }
 
-/// What is to be cast again behind a refusal: the payload, but for one that is too long, which
+/// The payload to retry after a refused cast: the payload, but for one that is too long, which
 /// never can be cast.
 fn left_to_cast(payload: Vec<u8>, refusal: CastRefusal) -> Option<Payloads>
     ensures { result ≡ if may_pass refusal then Some (One payload) else None }

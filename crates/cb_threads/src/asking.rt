@@ -1,4 +1,4 @@
-//! What a member asks third members for, and how often.
+//! Help frames to third members, and how often they are sent.
 
 ghost use Rattle.std.specs.Prelude.{◌≡◌, ◌≢◌, ◌+◌, ◌%◌, ◌^◌, ◌<◌, Decides, IfOk, Ok};
 ghost use Rattle.cb_history.specs.State.{answer_to_help};
@@ -21,15 +21,14 @@ pub struct Ticks {
 }
 
 impl Ticks {
-    /// None was made.
+    /// No tick was counted.
     pub fn new() -> Ticks
         ensures { result.made ≡ 0 }
     {
         Ticks { made: 0 }
     }
 
-    /// Counts a tick that was made. Whether it is a fourth one, behind which third members are
-    /// asked.
+    /// Counts a tick, and returns whether it is a fourth one, after which third members are asked.
     pub fn counts_to_four(&mut self) -> bool
         ensures counted { self.new.made ≡ (self.old.made + 1) % 2 ^ 64 }
         ensures fourth { Decides result (is_fourth self.new.made) }

@@ -1,4 +1,4 @@
-//! What the workers of a member leave: its report, and their seats.
+//! The results of a member's workers: its report, and their seats.
 
 ghost use Rattle.std.specs.Prelude.{◌≡◌, ℕ, ◌+◌, ◌<◌, ◌≤◌, IfSome, MatchOption, None, Some};
 ghost use Rattle.std.specs.Vec.{vec_capacity, vec_len};
@@ -16,7 +16,7 @@ use cb_links::{Inlet, Outlet};
 use cb_lock::Seat;
 use std::sync::ledger::Ledger;
 
-/// What is left where no worker was started.
+/// The results where no worker was started.
 pub fn unstarted<I: Inlet, O: Outlet, P: Pace, T, L: Ledger>(
     parts: Parts<I, O, P, T>,
     seats: Seats<L>,
@@ -129,7 +129,7 @@ fn all_lost(receiver: u64, timer: u64, speaker: u64, sender: u64) -> u64
         .saturating_add(sender)
 }
 
-/// What came back of a worker, or nothing where its thread could not be started.
+/// The result of a worker, or nothing where its thread could not be started.
 #[derive(Drop)]
 struct HandedBack<D> {
     part: Option<D>,

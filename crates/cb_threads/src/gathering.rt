@@ -22,7 +22,7 @@ pub struct Gathering<T> {
     inner: T,
     /// How many messages a burst has at most.
     most: usize,
-    /// What the talker said that goes in the next turn.
+    /// The talker's payloads for the next turn.
     kept: Option<Payloads>,
     /// It is asked no more.
     has_finished: bool,
@@ -67,7 +67,7 @@ impl<T: Talker> Talker for Gathering<T> {
 }
 
 impl<T: Talker> Gathering<T> {
-    /// What the talker wants to cast, where it wants to.
+    /// The payloads that the talker wants to cast, where it wants to.
     fn ask(&mut self, news: &[Event]) -> Result<Option<Payloads>, NoMemory> {
         if self.has_finished {
             return Ok(None);
@@ -90,7 +90,7 @@ impl<T: Talker> Gathering<T> {
         }
     }
 
-    /// What the talker says behind the first message goes with it.
+    /// The messages of the talker after the first one are cast with it.
     fn begin(&mut self, first: Payloads) -> Talk {
         match first {
             Payloads::Many(payloads) => Talk::Burst(payloads),
@@ -101,7 +101,7 @@ impl<T: Talker> Gathering<T> {
         }
     }
 
-    /// What the talker says behind the first message of a turn, where a burst may have two.
+    /// The talker's second message of a turn, where a burst may have two.
     fn second(&mut self) -> Option<Payloads> {
         if self.most > 1 {
             self.ask_again()
@@ -110,7 +110,7 @@ impl<T: Talker> Gathering<T> {
         }
     }
 
-    /// What was kept goes first, and what the talker says now with it.
+    /// The kept payloads come first, and the new ones of the talker with them.
     fn join(&mut self, kept: Payloads, said: Payloads) -> Talk {
         match kept {
             Payloads::One(payload) => self.gather(payload, said),
@@ -146,7 +146,7 @@ impl<T: Talker> Gathering<T> {
     }
 }
 
-/// What it wants to cast.
+/// The payloads that it wants to cast.
 fn payloads_of(talk: Talk) -> Option<Payloads>
     ensures { result ≡ cast_of talk }
 {

@@ -124,7 +124,7 @@ fn is_plan(group: Group, history_max: usize, lengths: (usize, usize, usize)) -> 
         && history_max <= LONGEST_HISTORY
 }
 
-/// What each member runs with.
+/// The parts of each member.
 fn parts<I: Drop, O: Drop, P: Drop, T: Drop>(
     alloc: Global,
     links: Vec<(I, O)>,

@@ -49,7 +49,7 @@ impl<T: Drop> From<AllocFailed<T>> for LifeFault {
     }
 }
 
-/// What all members of a group have in common.
+/// The setting that all members of a group share.
 #[derive(Clone, Copy)]
 pub struct Setting<'a> {
     pub alloc: Global,
@@ -82,7 +82,7 @@ impl<'a> Setting<'a> {
     }
 }
 
-/// What is kept of a member.
+/// The kept results of a member.
 #[derive(Drop)]
 pub struct Kept<I, O, P, T> {
     pub report: MemberReport<I, O, P, T>,
@@ -320,7 +320,7 @@ fn closed<I: Inlet + Drop, O: Outlet + Drop, P: Pace + Drop, T: Drop>(
     }
 }
 
-/// What it left is dropped by calls, which the prover takes less time for than for values that are
+/// Its results are dropped by calls, which the prover takes less time for than for values that are
 /// left to the end; of the member's own parts it would prove anew how each is dropped.
 fn not_closed<I: Drop, O: Drop, P: Drop, T: Drop>(
     identity: Identity,

@@ -36,7 +36,7 @@ impl Stop {
     }
 }
 
-/// What ends the workers of a member; in a group also that every talker has ended.
+/// The condition that ends the workers of a member; in a group also that every talker has ended.
 #[derive(Clone, Copy)]
 pub struct Ending<'a> {
     pub limits: Limits,

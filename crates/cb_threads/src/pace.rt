@@ -23,7 +23,7 @@ impl fmt::Display for PaceFault {
 
 impl Error for PaceFault {}
 
-/// What stands between two ticks of a member.
+/// The pause between two ticks of a member.
 pub trait Pace {
     ghost failed: { Self → ℕ };
 

@@ -18,7 +18,7 @@ pub struct PerWorker<R, T, S, D> {
     pub sender: D,
 }
 
-/// What a member runs with: its link, its pace and its talker.
+/// The parts of a member: its link, its pace and its talker.
 pub type Parts<I, O, P, T> = PerWorker<I, P, T, O>;
 
 /// A seat at the member for each.

@@ -1,4 +1,4 @@
-//! What became of a member that ran.
+//! The report of a member that ran.
 
 ghost use Rattle.std.specs.Prelude.{◌≡◌, [], ◌∷◌, map, Some};
 ghost use Rattle.cb_history.specs.Facts.{entry_fields};
@@ -35,7 +35,7 @@ impl fmt::Display for WorkerFault {
 
 impl Error for WorkerFault {}
 
-/// What became of a member's workers. Each count stays at its greatest value. The first three count
+/// The report of a member's workers. Each count stays at its greatest value. The first three count
 /// the receipts in the seats that are handed back; in the report of a group, the whole history.
 #[derive(Drop)]
 pub struct MemberReport<I, O, P, T> {
@@ -85,7 +85,7 @@ impl<I, O, P, T> MemberReport<I, O, P, T> {
     }
 }
 
-/// What became of each member, in the order of their numbers.
+/// The report of each member, in the order of their numbers.
 #[derive(Drop)]
 pub struct GroupReport<I, O, P, T> {
     pub reports: Vec<MemberReport<I, O, P, T>>,
@@ -100,7 +100,7 @@ pub struct Failures {
     pub pace: u64,
 }
 
-/// What entries say of casts and deliveries.
+/// Counts of casts and deliveries.
 #[derive(Clone, Copy)]
 pub struct Tally {
     pub casts: u64,
@@ -120,7 +120,7 @@ impl Tally {
         }
     }
 
-    /// What these entries say of casts and deliveries.
+    /// The counts of casts and deliveries in these entries.
     pub fn of_history(entries: &[Entry]) -> Tally
         ensures { IsTally (map entry_fields entries.now) result }
     {
@@ -131,7 +131,7 @@ impl Tally {
         tally
     }
 
-    /// What the receipts of these seats tell.
+    /// The counts in the receipts of these seats.
     pub fn of_seats<L: Ledger>(seats: &[Seat<L>]) -> Tally
         ensures { IsTally (entries_in seats.now) result }
     {

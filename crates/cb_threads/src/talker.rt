@@ -2,7 +2,7 @@
 
 use cb_member::{Event, NoMemory};
 
-/// What a talker wants next.
+/// The next wish of a talker.
 #[derive(Debug, PartialEq, Eq, Drop)]
 pub enum Talk {
     /// To cast this payload. One that finds the window or the history full, or no memory, is tried
@@ -21,7 +21,7 @@ pub enum Talk {
 
 /// Who decides what a member casts. It sees what the member has cast and delivered.
 pub trait Talker {
-    /// What to do next. `news` has what the member cast and delivered since it was last asked, in
+    /// The next wish. `news` has what the member cast and delivered since it was last asked, in
     /// order. After a refusal it begins with the same events again.
     fn next(&mut self, news: &[Event]) -> Result<Talk, NoMemory>;
 

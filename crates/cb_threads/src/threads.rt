@@ -33,7 +33,7 @@ pub type Crew<I, O, P, T, L> = PerWorker<
     Worker<O, Mailbox<Vec<Outgoing>>, L>,
 >;
 
-/// What the workers hand back, with None for one whose thread could not be started.
+/// The results of the workers, with None for one whose thread could not be started.
 pub type Ended<I, O, P, T, L> = PerWorker<
     Option<Worked<I, L>>,
     Option<Worked<P, L>>,

@@ -1,4 +1,4 @@
-//! What holds of the order of times, whatever the times: each law is the contract of a function that does nothing.
+//! The laws of the order of times, whatever the times: each law is the contract of a function that does nothing.
 ghost use Rattle.cb_times.specs.Laws.{AtMostIsReflexive, AtMostIsTransitive, AtMostIsAntisymmetric, ComparesMirrored, ComparesSomehow, ComparesInOneWay, RaisedIsUpperBound, RaisedIsLeast};
 
 /// Being at most another, field by field, is a partial order.

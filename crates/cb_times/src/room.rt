@@ -5,9 +5,10 @@ ghost use Rattle.std.specs.Vec.{vec_capacity, vec_len};
 
 use crate::time::NoMemory;
 
-/// Makes room for so many more. A full list grows to four times its length where memory allows, since a long one is slow to move.
+/// Makes room for that many more items. A full list grows to four times its length where memory allows, since a long one is slow to
+/// move.
 ///
-/// What is in the list stays, also where memory is refused.
+/// The items stay, also where memory is refused.
 pub fn make_room<T>(list: &mut Vec<T>, more: usize) -> Result<(), NoMemory>
     ensures items { list.new.items ≡ list.old.items }
     ensures len { vec_len list.new ≡ vec_len list.old }

@@ -113,7 +113,7 @@ impl VectorTime {
         raise_fields(self.fields.as_mut_slice(), other.fields.as_slice());
     }
 
-    /// How this time stands to the other.
+    /// Compares two times of one group: `Before`, `After`, `Same` or `Concurrent`, exactly as their fields compare (`Compares`).
     pub fn compare(&self, other: &VectorTime) -> TimeOrder
         requires { length other.now ≡ length self.now }
         ensures { Compares (field self.now) (field other.now) result }

@@ -77,7 +77,7 @@ fn number_of(first_frames: &IndexMap<Bytes, usize>, frame: &Bytes) -> Option<usi
     first_frames.get(frame).copied()
 }
 
-/// The step of the next entry of member k, of which so many have gone.
+/// The step of the next entry of member k, of which that number has gone.
 fn next_step(
     alloc: Global,
     k: u32,

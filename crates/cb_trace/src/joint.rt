@@ -35,7 +35,7 @@ impl Model for Joint {
 }
 
 impl Joint {
-    /// What happened, one thing after another. Each arrival names the first frame with its bytes.
+    /// The steps, in order. Each arrival names the first frame with its bytes.
     pub fn steps(&self) -> &[Step]
         ensures { map step_fields result.now ≡ self.now.steps }
     {

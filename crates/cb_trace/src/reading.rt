@@ -18,12 +18,12 @@ use cb_times::MOST_MEMBERS;
 use std::alloc::Global;
 use std::mem;
 
-/// What the next line has to be.
+/// The kind of line that has to come next.
 #[derive(Clone, Copy, Debug)]
 enum Place {
     /// A member's line, or the last line.
     Member,
-    /// An entry of this member, which has so many entries still to come.
+    /// An entry of this member, which has that number of entries still to come.
     Entry { me: u32, left: u32 },
     /// None: the last line stands.
     End,
@@ -107,7 +107,7 @@ impl Reading {
         self.go_on(alloc, me, left - 1)
     }
 
-    /// Goes on behind a line of this member, of which so many entries are still to come. The member is whole where there are none.
+    /// Continues after a line of this member, of which that number of entries is still to come. The member is whole where there are none.
     fn go_on(&mut self, alloc: Global, me: u32, left: u32) -> Result<(), LineFault>
         requires { IsBegun self.old.group (map history_fields self.old.histories.items) me
             (map entry_fields self.old.entries.items) left }

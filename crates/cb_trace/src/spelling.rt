@@ -1,4 +1,4 @@
-//! What the line of a member says. It is read in its one spelling.
+//! The line of a member. It is read in its one spelling.
 
 ghost use Rattle.std.specs.Prelude.{◌≡◌, IfOk};
 ghost use Rattle.std.specs.Bool.{Decides};

@@ -63,7 +63,7 @@ fn spelled(alloc: Global, group: Group, histories: &[History]) -> Result<Vec<u8>
     Ok(out)
 }
 
-/// The line of a member with so many entries, without its line feed.
+/// The line of a member with that number of entries, without its line feed.
 #[tactic(auto, unfolding(crate::specs::Text::member_line, cb_lines::specs::Text::line_of))]
 pub fn put_member(out: &mut Vec<u8>, me: u32, count: usize) -> Result<(), NoMemory>
     ensures { OnOk result (out.new.items ≡ out.old.items ++ member_line me count) }

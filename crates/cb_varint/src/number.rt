@@ -67,7 +67,9 @@ fn put_groups(v: u32, out: &mut Vec<u8>) -> Result<(), AllocError>
     out.extend_from_slice(&text[..=count])
 }
 
-/// Reads the number at the front of `bytes`, and says how many bytes it has. What follows it is not looked at.
+/// Reads the number at the front of `bytes`, and returns it with the length of its spelling. The bytes after it are not read.
+///
+/// Where `bytes` begins with no spelling, the fault is exactly the one that `IsFault` defines.
 pub fn take(bytes: &[u8]) -> Result<(u32, usize), NumberFault>
     ensures within { IfOk result (λ found. found.1 ≤ len bytes.now) }
     ensures found { IfOk result (λ found. Spells (front found.1 bytes.now) found.0) }

@@ -14,7 +14,7 @@ pub struct Sent {
     pub bytes: Bytes,
 }
 
-/// What a step was answered, without the frames that it sent.
+/// The answer to a step, without the frames that it sent.
 #[derive(Debug, Drop)]
 pub enum Answer {
     Cast {

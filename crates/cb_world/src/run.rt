@@ -18,7 +18,7 @@ use cb_member::{Entry, Event, Group, NoMemory};
 use std::alloc::Global;
 use std::marker::Model;
 
-/// What a schedule leaves behind.
+/// The run of a schedule.
 #[derive(Drop)]
 pub struct Run {
     pub(crate) world: World,
@@ -33,7 +33,8 @@ impl Model for Run {
 }
 
 impl Run {
-    /// The outcome of each step. No arrival is refused, but where the history is full.
+    /// The outcome of each step: the answer of the definition, the number of its first frame and how many frames it sent. A refused cast
+    /// and a refused burst are different answers. No arrival is refused, but where the history is full.
     pub fn outcomes(&self) -> &[Outcome]
         ensures outcomes { AreOutcomes self.now.setting self.now.steps result.now }
         ensures welcome { ArrivalsAreWelcome self.now.setting (run_in self.now) }

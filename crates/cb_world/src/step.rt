@@ -1,4 +1,4 @@
-//! What happens in a group.
+//! The steps of a group.
 
 ghost use Rattle.std.specs.Prelude.{◌≡◌, IfOk};
 ghost use Rattle.cb_world.specs.Steps.{member_of, step_fields};

@@ -1,4 +1,4 @@
-//! What one step does, to the member that it names and to the frames that were sent.
+//! The effect of one step on the member that it names and to the frames that were sent.
 
 ghost use Rattle.std.specs.Prelude.{◌≡◌, ℕ, ◌+◌, ◌≤◌, [], ◌∷◌, ◌++◌, true, IfOk, OnErr, map, slice_get};
 ghost use Rattle.std.specs.Vec.{vec_capacity, vec_len};

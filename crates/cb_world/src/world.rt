@@ -79,7 +79,8 @@ impl Model for World {
 }
 
 impl World {
-    /// A group in which nothing has happened, and whose members' histories may have 1 to 16,777,216 entries.
+    /// A group in which nothing has happened, and whose members' histories may have 1 to 16,777,216 entries. `BadLimit` exactly for
+    /// another limit; else the only error is out of memory.
     pub fn new(alloc: Global, group: Group, history_max: usize) -> Result<World, PlayFault>
         ensures ok { IfOk result (λ world. world ≡ record {
           setting = record {
@@ -211,7 +212,8 @@ impl World {
         self.sent.as_slice()
     }
 
-    /// The outcome of each step. No arrival is refused, but where the history is full.
+    /// The outcome of each step: the answer of the definition, the number of its first frame and how many frames it sent. A refused cast
+    /// and a refused burst are different answers. No arrival is refused, but where the history is full.
     pub fn outcomes(&self) -> &[Outcome]
         ensures outcomes { AreOutcomes self.now.setting self.now.steps result.now }
         ensures welcome { ArrivalsAreWelcome self.now.setting (run_in self.now) }

@@ -3,6 +3,10 @@
 //! `cli` reads the words, by `clap`, and runs what they order: each subcommand is a library of its own,
 //! `confer_expand`, `confer_play`, `confer_audit` and `confer_run`, over `confer_text`, which they share. Their
 //! calls and faults are offered here too.
+//!
+//! Only tested: that each text of a script is read, and what is printed of its steps but screens; that a script
+//! which an audit printed has the trace's histories when it is played; that `confer run` casts and delivers
+//! all, and that its audit answers yes; the answers of `clap` to faulty words.
 #![tactic(auto)]
 
 mod cli;

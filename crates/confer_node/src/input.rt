@@ -19,7 +19,7 @@ const CHUNK: usize = 4_096;
 /// So many pieces may lie unread. Then the thread waits.
 const PIECES: usize = 4;
 
-/// What the thread hands on. Behind the last piece its end of the channel is gone.
+/// The pieces that the thread passes on. After the last piece its end of the channel is gone.
 #[derive(Drop)]
 pub enum Piece {
     Bytes(Vec<u8>),
@@ -54,7 +54,7 @@ pub fn hand_on<R: Wait, I: Read + Drop>(rt: &R, alloc: Global, input: I, to: &Se
     }
 }
 
-/// What one read gives; `None` at the end of the input alone.
+/// The bytes of one read; `None` at the end of the input alone.
 fn next_piece<I: Read>(alloc: Global, input: &mut I) -> Option<Piece>
     ensures { MatchOption result (IsAtEnd (I.remaining input.new))
         (IsPieceOf (I.remaining input.old) (I.remaining input.new)) }

@@ -1,4 +1,4 @@
-//! What was read is cut into lines.
+//! Cuts the input into lines.
 
 ghost use Rattle.std.specs.Prelude.{◌≡◌, ◌++◌, [], IfOk, MatchOption, OnOk};
 ghost use Rattle.std.specs.List.{Contains};
@@ -11,7 +11,7 @@ use std::alloc::Global;
 /// The most bytes of a line, which is the payload of a cast.
 pub const LONGEST_LINE: usize = 1_024;
 
-/// What was read and is not cut into lines yet.
+/// The input that is not cut into lines yet.
 #[derive(Drop)]
 pub struct Lines {
     alloc: Global,

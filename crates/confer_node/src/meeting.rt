@@ -15,7 +15,7 @@ use std::net::Net;
 use std::sync::Wait;
 use std::time::{Clock, Duration};
 
-/// What an inlet says of those that are no members.
+/// An inlet that reports on ends that are no members.
 pub trait Guarded {
     /// How many frames came from an address that is no other member's.
     fn strange_frames(&self) -> u64 {

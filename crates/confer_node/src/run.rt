@@ -1,4 +1,4 @@
-//! What the words order, done.
+//! Carries out the order of the words.
 
 ghost use Rattle.std.specs.Prelude.{◌≡◌};
 ghost use Rattle.confer_node.specs.Statuses.{status_of};
@@ -41,7 +41,7 @@ pub fn report<E: Write>(fault: &Fault, errors: &mut E) -> u8
     fault.status()
 }
 
-/// What a session is made of, but for its link.
+/// The parts of a session, but for its link.
 #[derive(Drop)]
 struct Parts<K, I> {
     member: Member,

@@ -1,4 +1,4 @@
-//! What is said on standard error of what came up, each once.
+//! Notices on standard error, each printed once.
 
 ghost use Rattle.std.specs.Prelude.{◌≡◌, OnOk};
 ghost use Rattle.std.specs.Io.KnownBytes.{Keeps};
@@ -54,7 +54,7 @@ impl fmt::Display for Notice {
     }
 }
 
-/// What was said.
+/// The notices that were printed.
 #[derive(Drop)]
 pub struct Notices {
     said: Vec<Notice>,

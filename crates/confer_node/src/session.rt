@@ -28,10 +28,10 @@ use std::time::{Clock, Duration};
 /// The milliseconds of the longest sleep of a turn: so late a line that is read is cast at most.
 const NAP: u64 = 50;
 
-/// What is said of a line that is left out.
+/// The notice of a line that is left out.
 const TOO_LONG: &[u8] = b"confer_node: a line of more than 1024 bytes is left out\n";
 
-/// What is said where the time is over.
+/// The notice that the time is over.
 const TIME_OVER: &[u8] = b"confer_node: the time is over\n";
 
 /// A member, its input, and when it ends.

@@ -1,4 +1,4 @@
-//! What is printed: a line for each cast and each delivery.
+//! The printed lines: a line for each cast and each delivery.
 
 ghost use Rattle.std.specs.Prelude.{◌≡◌, ◌++◌, OnOk};
 ghost use Rattle.cb_delay.specs.Message.{message_of};

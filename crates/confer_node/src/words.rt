@@ -1,4 +1,4 @@
-//! What the words of the command line order.
+//! The order of the words of the command line.
 
 ghost use Rattle.std.specs.Prelude.{◌≡◌, IfOk, length};
 ghost use Rattle.cb_history.specs.Group.{IsIdentity};
@@ -32,14 +32,14 @@ Exit status: 0 all was cast and is stable, and each other member was heard, 1 th
 link or the thread that reads, or a full history, 5 out of \
 memory.";
 
-/// What carries the frames.
+/// The link that carries the frames.
 #[derive(Clone, Copy, Debug, PartialEq, Eq)]
 pub enum LinkKind {
     Udp,
     Tcp,
 }
 
-/// What the words order.
+/// The order of the words.
 #[derive(Drop)]
 pub struct Order<'a> {
     pub alloc: Global,
@@ -57,7 +57,7 @@ pub struct Order<'a> {
     pub patience: Option<Duration>,
 }
 
-/// What the words order, of which the first is the program's name.
+/// The order of the words, of which the first is the program's name.
 pub fn order_of<'a, S: AsStr>(alloc: Global, words: &'a [S]) -> Result<Order<'a>, Fault>
     ensures { IfOk result (λ order. IsIdentity order.seat
         × (length order.addresses.items ≡ order.seat.group.size)) }

@@ -197,6 +197,8 @@ impl Participant {
 }
 
 impl Talker for Participant {
+    /// Shows the conference the new events, in order and each once. Then member 0 asks its next question, and every other member answers
+    /// the next question that it was shown.
     fn next(&mut self, news: &[Event]) -> Result<Talk, NoMemory>
         ensures ok { IfOk result (λ talk. TalksAbout self.old self.new news.now talk) }
         ensures err { OnErr result (SawFirst self.old self.new news.now) }

@@ -54,7 +54,7 @@ pub fn pace() -> Every {
     Every(Duration::from_millis(1))
 }
 
-/// What is printed of a conference, and whether its audit said no.
+/// The printed text of a conference, and whether its audit refused it.
 #[derive(Drop)]
 pub struct RunText {
     pub refused: bool,
@@ -118,7 +118,7 @@ fn write_answer<W: Write>(answer: RunText, output: &mut W) -> Result<bool, RunFa
     }
 }
 
-/// What is printed of a conference over the links of its setting.
+/// The printed text of a conference over the links of its setting.
 fn run_linked<R: Threads + Wait + Clock + Net<Listener = TcpListener, Stream = TcpStream> + Sync>(
     rt: &R,
     alloc: Global,
@@ -143,7 +143,7 @@ fn run_linked<R: Threads + Wait + Clock + Net<Listener = TcpListener, Stream = T
     }
 }
 
-/// What is printed of a conference over these links, of which each member has one.
+/// The printed text of a conference over these links, of which each member has one.
 pub fn run_over<I: Inlet + Send + Drop, O: Outlet + Send + Drop, R: Threads + Wait + Clock + Sync>(
     rt: &R,
     alloc: Global,
@@ -185,7 +185,7 @@ fn gather_crew(alloc: Global, setting: RunSetting) -> Result<Crew, ThreadFault>
     }
 }
 
-/// What is printed of a conference of this crew.
+/// The printed text of a conference of this crew.
 fn run_crew<I: Inlet + Send + Drop, O: Outlet + Send + Drop, R: Threads + Wait + Clock + Sync>(
     rt: &R,
     alloc: Global,
@@ -244,7 +244,7 @@ fn fault_of(fault: GroupFault) -> ThreadFault
     }
 }
 
-/// What is printed of a conference with this report.
+/// The printed text of a conference with this report.
 fn reported<I: Drop, O: Drop>(
     alloc: Global,
     setting: RunSetting,
@@ -288,7 +288,7 @@ fn paces(alloc: Global, size: u32) -> Result<Vec<Every>, ThreadFault>
     Ok(paces)
 }
 
-/// What is printed of a conference that ran. A worker's fault is the fault of all, whatever is to be printed.
+/// The printed text of a conference that ran. A worker's fault is the fault of all, whatever is to be printed.
 fn run_text<I, O>(
     alloc: Global,
     setting: RunSetting,
@@ -423,7 +423,7 @@ fn put_counts<I, O>(
     out.extend_from_slice(b"\n")
 }
 
-/// What the member did.
+/// The counts of the member.
 #[tactic(auto, unfolding(crate::specs::Run::done_text))]
 fn put_done<I, O>(
     out: &mut Vec<u8>,

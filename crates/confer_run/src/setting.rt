@@ -1,4 +1,4 @@
-//! What a conference in threads is to be.
+//! The setting of a conference in threads.
 
 ghost use Rattle.std.specs.Prelude.{◌≡◌, Decides};
 ghost use Rattle.confer_run.specs.Settings.{IsRunGroup, IsRunSetting, IsRunTalk};
@@ -14,7 +14,7 @@ pub const MOST_QUESTIONS: u32 = 100;
 /// How many turns a worker may make at most.
 pub const MOST_TURNS: u32 = 10_000_000;
 
-/// What carries the frames.
+/// The link that carries the frames.
 #[derive(Clone, Copy)]
 pub enum LinkKind {
     /// Channels.
@@ -25,7 +25,7 @@ pub enum LinkKind {
     Tcp,
 }
 
-/// What a conference in threads is to be.
+/// The setting of a conference in threads.
 #[derive(Clone, Copy)]
 pub struct RunSetting {
     /// How many members, 2 to 8.

@@ -26,7 +26,7 @@ pub fn put_number(text: &mut Vec<u8>, number: u32) -> Result<(), NoMemory>
     text.extend_from_slice(Buffer::new().format(number).as_bytes())
 }
 
-/// A number behind its words.
+/// Appends the words, and the number in decimal.
 #[tactic(auto, unfolding(crate::specs::Texts::parameter_text))]
 pub fn put_parameter(text: &mut Vec<u8>, words: &[u8], number: usize) -> Result<(), NoMemory>
     ensures { OnOk result (text.new.items ≡ text.old.items ++ parameter_text words.now number) }

@@ -37,7 +37,7 @@ pub const TOO_FAR: u32 = 11;
 
 pub const MALFORMED: u32 = 12;
 
-/// There is no frame, event or entry of this index, or not so many bytes are loaded or given.
+/// There is no frame, event or entry of this index, or too few bytes are loaded or given.
 pub const NONE_THERE: u32 = 13;
 
 pub const OVERLAP: u32 = 14;

@@ -1,4 +1,4 @@
-//! What is told of a journal.
+//! The answers about a journal.
 
 ghost use Rattle.std.specs.Prelude.{◌≡◌, MatchResult};
 ghost use Rattle.jolunza.specs.Calls.{journal_row, with_fault};
@@ -10,7 +10,7 @@ use cb_handle::Held;
 use cb_handle_journal::{LineRefusal, ResumeFault};
 use std::alloc::AllocError;
 
-/// What a journal is of, and how much of it was read.
+/// The member of a journal, and how much of it was read.
 #[repr(C)]
 #[derive(Clone, Copy, Debug, Default, PartialEq, Eq)]
 pub struct Journal {

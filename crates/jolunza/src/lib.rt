@@ -2,6 +2,16 @@
 //!
 //! Each takes what the handle holds, calls a method of `Held`, which `cb_handle` defines, and puts it back. A closed handle answers
 //! `CLOSED`; after any code but `DONE` the member is as it was, and so is what the call would have filled.
+//!
+//! Each contract but those of `jolunza_open`, `jolunza_resume` and `jolunza_close` promises that a closed handle stays closed, with
+//! the code `CLOSED`, and that an open one stays open (`Calls`). After any code but `DONE` a call has filled nothing, but for the
+//! line at fault of `jolunza_resume`. An open handle owns a box with the member and the right to free it, a closed one nothing
+//! (`specs/Owning` of `cb_handle`). A handle may be sent to another thread; that is proved (`Send`). All this holds of calls as the
+//! header asks for them.
+//!
+//! Only tested: `jolunza_text` and `jolunza_bytes`, which are code of the header, and `JOLUNZA_LONGEST_LINE`.
+//! `bindings/check_header.py` computes that length from the limits of groups and frames, and compares the sentence of each code
+//! with those in Rust and Python; `bindings/c/calls.c` looks at a word of each, and makes a line with the greatest number of names.
 #![tactic(auto)]
 
 ghost use Rattle.std.specs.Prelude.{◌≡◌, ◌≢◌, None, drop, nat_lt, slice_get};
@@ -34,7 +44,10 @@ use cb_handle::{
 use cb_handle_journal::{Resumed, journal_head, journal_line, resume};
 use std::alloc::{AllocError, Global};
 
-/// Opens a member, without a history where that may have no entries. A handle that is open is closed first.
+/// Opens a member without entries, events and frames; with a limit of 0 it keeps no history. A handle that is open is closed first.
+///
+/// Else the handle is closed, and the code is the first of these that holds: `BAD_GROUP`, `BAD_MEMBER`, `BAD_LIMIT` for a limit above
+/// 16,777,216, `NO_MEMORY`.
 #[unsafe(no_mangle)]
 pub extern "C" fn jolunza_open(
     alloc: Global,
@@ -60,7 +73,7 @@ pub extern "C" fn jolunza_open(
     DONE
 }
 
-/// Frees the member, if there is one.
+/// Closes the handle, and frees its member if there is one.
 #[unsafe(no_mangle)]
 pub extern "C" fn jolunza_close(alloc: Global, handle: &mut Handle)
     ensures { handle.new.held ≡ None }
@@ -68,7 +81,8 @@ pub extern "C" fn jolunza_close(alloc: Global, handle: &mut Handle)
     drop(take(alloc, handle));
 }
 
-/// Casts a message. Its frame, to all others, is the one that is to be sent.
+/// Casts a message as the definition does. Its one frame, to all others, is to be sent. Any other code than `DONE` is that of the
+/// refusal that the definition has for this call, or `NO_MEMORY`; then the member and the frames are as they were.
 #[unsafe(no_mangle)]
 pub extern "C" fn jolunza_cast(alloc: Global, handle: &mut Handle, payload: &[u8]) -> u32
     ensures { Calls (Casts (One payload.now)) handle.old.held handle.new.held result }
@@ -81,8 +95,11 @@ pub extern "C" fn jolunza_cast(alloc: Global, handle: &mut Handle, payload: &[u8
     code::of_cast(answer)
 }
 
-/// Casts the messages of a burst. Their payloads are of these lengths and lie one after another, from the front on; their one frame, to
-/// all others, is the one that is to be sent.
+/// Casts the messages of a burst as the definition does. Their payloads have these lengths and follow one another from the front on;
+/// their one frame, to all others, is to be sent.
+///
+/// `NONE_THERE` exactly where there are fewer bytes than the lengths ask for. Any other code than `DONE` is that of a refusal of the
+/// burst, or `NO_MEMORY`, which comes only in place of a burst.
 #[unsafe(no_mangle)]
 pub extern "C" fn jolunza_cast_burst(
     alloc: Global,
@@ -100,7 +117,8 @@ pub extern "C" fn jolunza_cast_burst(
     code::of_payloads(answer)
 }
 
-/// Takes received bytes. The frames that are to be sent answer a request or a help frame; what is delivered are the last events.
+/// Takes received bytes as the definition does, and fills in whether they were a repeat, whether the history, kept or not, grew, and how
+/// many messages were delivered. The frames to be sent answer a request or a help frame; the delivered messages are the last events.
 #[unsafe(no_mangle)]
 pub extern "C" fn jolunza_receive(
     alloc: Global,
@@ -119,7 +137,8 @@ pub extern "C" fn jolunza_receive(
     tell_received(answer, received)
 }
 
-/// Copies bytes in, in place of those that were loaded before, so that their parts can be received.
+/// Copies bytes in, in place of those that were loaded before, so that their parts can be received. No other call changes the loaded
+/// bytes, and a new member has none. Out of memory nothing has changed.
 #[unsafe(no_mangle)]
 pub extern "C" fn jolunza_load(alloc: Global, handle: &mut Handle, bytes: &[u8]) -> u32
     ensures { Calls (Loads bytes.now) handle.old.held handle.new.held result }
@@ -135,7 +154,8 @@ pub extern "C" fn jolunza_load(alloc: Global, handle: &mut Handle, bytes: &[u8])
     }
 }
 
-/// Takes so many of the loaded bytes, from `first` on, as `jolunza_receive` takes bytes.
+/// Takes a part of the loaded bytes, that many from `first` on, as `jolunza_receive` takes bytes. `NONE_THERE` exactly where the part is
+/// not loaded; any other code than `DONE` is that of a refusal of its bytes, or `NO_MEMORY`. Then nothing has changed.
 #[unsafe(no_mangle)]
 pub extern "C" fn jolunza_receive_loaded(
     alloc: Global,
@@ -157,7 +177,12 @@ pub extern "C" fn jolunza_receive_loaded(
 }
 
 /// Takes parts of the loaded bytes, of these lengths and from `first` on, one after another as `jolunza_receive_loaded` takes one, and
-/// tells how many were taken.
+/// fills in how many were taken, at least one. The frames to be sent are those of the last, since no part before it has any. Without a
+/// history the events and entries are those that all of them have added, in their order.
+///
+/// Fewer than all are taken only where the last has frames to be sent, or where the next one would be refused. `NONE_THERE` exactly
+/// where there is no part or the first is not loaded; any other code than `DONE` is that of a refusal of the first part, or `NO_MEMORY`.
+/// Then nothing has changed.
 #[unsafe(no_mangle)]
 pub extern "C" fn jolunza_receive_parts(
     alloc: Global,
@@ -191,8 +216,11 @@ pub extern "C" fn jolunza_tick(alloc: Global, handle: &mut Handle) -> u32
     code::of_tick(answer)
 }
 
-/// Asks a third member for the missing casts of another one: its frame, to that third member alone, is the one that is to be sent. There
-/// is none where none is missing, or nobody else is known to have the first of them. The member stays as it is.
+/// Asks a third member for the missing casts of another one: its frame, to that third member alone, is to be sent. There is none if no
+/// cast is missing, or if nobody else is known to have the first of them. The member, its events and entries and the loaded bytes stay
+/// as they were.
+///
+/// `BAD_MEMBER` exactly for the member itself and for a number that no member has; any other code than `DONE` is `NO_MEMORY`.
 #[unsafe(no_mangle)]
 #[tactic(auto, using(crate::proofs::Helping::helps_so))]
 pub extern "C" fn jolunza_help(alloc: Global, handle: &mut Handle, member: u32) -> u32
@@ -263,7 +291,8 @@ pub extern "C" fn jolunza_frame(
     code::of_reading(answer)
 }
 
-/// The frames of the last call from `first` on, as many as fit.
+/// The frames of the last call from `first` on, all that fit: their heads, and their bytes one after another. The count is how many; one
+/// more would not have fit, or there is none. Nothing changes.
 #[unsafe(no_mangle)]
 pub extern "C" fn jolunza_frames(
     alloc: Global,
@@ -311,7 +340,8 @@ pub extern "C" fn jolunza_event(
     code::of_reading(answer)
 }
 
-/// The events from `first` on, as many as fit.
+/// The events from `first` on, all that fit: their heads, and their payloads and times one after another. The count is how many; one
+/// more would not have fit, or there is none. Nothing changes.
 #[unsafe(no_mangle)]
 pub extern "C" fn jolunza_events(
     alloc: Global,
@@ -430,8 +460,8 @@ pub extern "C" fn jolunza_acknowledged_by(
     tell_count(answer, count)
 }
 
-/// Whether another member keeps the window full: of as many of the last own casts as the window is wide it is not known to have
-/// delivered any. A number that no member has is that of a bad member.
+/// Whether another member keeps the window full: it is not known to have delivered any of the last own casts, a whole window of them. A
+/// number that no member has is that of a bad member.
 #[unsafe(no_mangle)]
 pub extern "C" fn jolunza_keeps_window_full(
     alloc: Global,
@@ -502,7 +532,8 @@ pub extern "C" fn jolunza_waits_for(
     tell_delayed(answer, delayed)
 }
 
-/// The casts of another member that are missing, as far as they fit.
+/// The casts of another member that are missing, as ranges, all that fit, and how many ranges there are. `BAD_MEMBER` exactly for the
+/// member itself and for a number that no member has; else `DONE` or `NO_MEMORY`. Nothing changes.
 #[unsafe(no_mangle)]
 pub extern "C" fn jolunza_missing(
     alloc: Global,
@@ -523,7 +554,13 @@ pub extern "C" fn jolunza_missing(
     tell_missing(answer, count)
 }
 
-/// Opens the member whose journal these bytes are, as it was after the last whole line. A handle that is open is closed first.
+/// Opens the member whose journal these bytes are, as it was after the last whole line, and fills in its group and number, how many
+/// entries there are, and how many bytes the whole lines have. With the limit 0 it keeps no history; all entries and their events can be
+/// read. A handle that is open is closed first.
+///
+/// Else the handle is closed, and the code is the first of these that holds: `NO_HEAD` where no line is whole, `BAD_LINE` with the first
+/// whole line that is not what must be there, `BAD_LIMIT`, `TOO_LONG` for more entries than the limit, `NOT_LEGAL` with the line of the
+/// first entry that no call adds to those before it. `NO_MEMORY` may come in place of any answer.
 #[unsafe(no_mangle)]
 pub extern "C" fn jolunza_resume(
     alloc: Global,
@@ -596,7 +633,9 @@ pub extern "C" fn jolunza_journal_line(
     tell_line(answer, length)
 }
 
-/// From whom the frame is whose text the bytes are: its group and the member that sends it. It needs no handle.
+/// From whom the frame is whose text the bytes are: its group, and the member that sends it (of a request or a help frame the
+/// requester). It needs no handle. `MALFORMED` only where the bytes are no frame. `NO_MEMORY` may come in place of any answer; there is
+/// no other code.
 #[unsafe(no_mangle)]
 #[tactic(auto, using(crate::proofs::Senders::fills_nothing))]
 pub extern "C" fn jolunza_sender(

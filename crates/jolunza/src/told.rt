@@ -1,4 +1,4 @@
-//! What a call that is done fills besides its code.
+//! The records that a call fills besides its code.
 
 ghost use Rattle.std.specs.Prelude.{◌≡◌, MatchOption, MatchResult};
 ghost use Rattle.jolunza.specs.Codes.{arrive_code, loaded_code, missing_code};

@@ -1,4 +1,4 @@
-//! What stays as it was before there were help frames.
+//! Histories and answers from before there were help frames.
 
 ghost use Rattle.cb_history.specs.BeforeLaws.{LegalBeforeIsLegal, ReadAsBefore, FactsAsBefore, StableAsBefore, CastsAsBefore, TicksAsBefore, NewsBeforeIsNews, ArrivalsAsBefore};
 

@@ -1,4 +1,4 @@
-//! What a reorder buffer holds of the casts that are there.
+//! The casts that a reorder buffer holds.
 
 ghost use Rattle.cb_history.specs.BufferLaws.{NewBufferHolds, KeptCastWaits, KeptSinglesWait, OthersDoNotWait, OtherSinglesDoNotWait, TakenCastIsThere, AllIsTaken, ReceivedIsThere, MissingIsLacked, RangesAreAskedFor};
 

@@ -1,4 +1,4 @@
-//! What one more fact does to the events of a member.
+//! The effect of one more fact on the events of a member.
 
 ghost use Rattle.cb_history.specs.EventLaws.{EventsWithOneMore, EventsCastTheOwn, OwnCastMakesReady};
 

@@ -1,9 +1,9 @@
-//! What is expanded of a sender's casts.
+//! The expanded casts of a sender.
 
 ghost use Rattle.cb_history.specs.ExpansionLaws.{ExpandedAreThere, NextIsNotThere, RunIsExpanded, ExpandedUpToTheCount, DeliveredIsExpanded, OthersExpandNothing, AfterAGapNothingExpands, TheRunIsNewlyExpanded, GreatestOfTheRun};
 
-/// As many casts of a sender are expanded as are there in a row from number 1: they are there and the next one is not. What is
-/// delivered is expanded. One more cast expands nothing of other senders, and of its own sender the run behind it.
+/// The expanded casts of a sender are those that are there in a row from number 1: they are there and the next one is not. Delivered
+/// messages are expanded. One more cast expands nothing of other senders, and of its own sender the run after it.
 pub fn what_is_expanded()
     ensures there { ExpandedAreThere }
     ensures next { NextIsNotThere }

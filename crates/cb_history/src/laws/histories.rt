@@ -3,21 +3,21 @@
 ghost use Rattle.cb_history.specs.HistoryLaws.{PrefixIsLegal, PrefixOfFactsIsLegal, LastFactIsAStep, CallsKeepLegal, LegalHistoriesSayLegalFacts, EachEntrySaysOneFact, OwnFramesHaveTexts, EntriesSayTheirTexts, ArrivalsNameDeliveries};
 ghost use Rattle.cb_history.specs.LimitLaws.{LimitIsAdded, LegalIsAddedInLimit, LegalFactsInLimit, LegalAnswersByStable, CallsKeepEntries, EntriesSayLegalFacts};
 
-/// What stands before any place of a legal history is one, and so it is with its facts, each of which is a step from those before it.
+/// Each beginning of a legal history is legal, and so are its facts, each of which is a step from those before it.
 pub fn prefixes_are_legal()
     ensures entries { PrefixIsLegal }
     ensures facts { PrefixOfFactsIsLegal }
     ensures step { LastFactIsAStep }
 {}
 
-/// A call of bytes keeps a history legal, whatever limit up to the greatest it is made with.
+/// A call keeps a history legal, whatever bytes are received, forged ones too, and whatever limit up to the greatest it is made with.
 pub fn calls_keep_histories_legal()
     ensures { CallsKeepLegal }
 {}
 
-/// What is written is read back: each entry of a legal history says one fact, and each fact is a step from those before it.
-/// All that a member sends has a text, and what it stores is the text of what it says, so what is sent again is as it was sent
-/// first. An arrival's entry names what was delivered by it.
+/// A written entry is read back: each entry of a legal history is one fact, and each fact is a step from those before it. All frames of
+/// a member have a text, which is the text that it stores, so a frame that is sent again is the frame that was sent first. An arrival's
+/// entry names its deliveries.
 pub fn histories_say_facts()
     ensures legal { LegalHistoriesSayLegalFacts }
     ensures each { EachEntrySaysOneFact }
@@ -26,9 +26,9 @@ pub fn histories_say_facts()
     ensures delivered { ArrivalsNameDeliveries }
 {}
 
-/// Legality is what calls add, however many entries there are, and the limit is added to it: a history is legal
-/// exactly where each entry is the one that a call adds with the greatest limit, and then numbers are left. Without
-/// a limit too calls keep it, and entries say legal facts.
+/// A history is legal exactly where each entry is the one that a call adds with the greatest limit, and then numbers are left. Legality
+/// is defined by calls at any number of entries, and the limit is added to it. Without a limit too calls keep it, and entries are legal
+/// facts.
 pub fn legality_without_a_limit()
     ensures limit { LimitIsAdded }
     ensures entries { LegalIsAddedInLimit }

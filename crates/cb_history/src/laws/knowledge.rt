@@ -1,10 +1,10 @@
-//! What is known, acknowledged and stable.
+//! Known, acknowledged and stable numbers.
 
 ghost use Rattle.cb_history.specs.KnowledgeLaws.{StatusIsKnown, StatusIsAcknowledged, CastIsKnown, CastIsAcknowledged, OwnStatusTellsNothing, OwnCastTellsNothing, NothingFalls, DeliveredIsKnown, AcknowledgedIsDelivered, StatusIsAcknowledgedOf, CastIsAcknowledgedOf, OwnCastAcknowledgesNothing, OwnStatusAcknowledgesNothing, NothingFallsOf, StableOfMe, StableIsDelivered};
 
-/// What one more fact does to what is known, acknowledged and stable: a received status raises it to what it says, a received cast
-/// to what it and the times say that can be known by it, an own cast or status leaves it, and none makes it smaller. What is
-/// delivered is known, and no more is acknowledged than was cast.
+/// One more fact never lowers the numbers that are known, acknowledged and stable. A received status raises them to its own numbers; a
+/// received cast raises them to the numbers that it and the times make known; an own cast or status changes none. Delivered messages are
+/// known, and no more is acknowledged than was cast.
 pub fn knowledge_grows()
     ensures known { StatusIsKnown }
     ensures acknowledged { StatusIsAcknowledged }
@@ -17,10 +17,9 @@ pub fn knowledge_grows()
     ensures bound { AcknowledgedIsDelivered }
 {}
 
-/// What one more fact does to what every member is known to have delivered of the casts of every sender: a received status raises it
-/// to what it says of its own sender, the times of what a received cast delivers raise it to what they say, own casts and statuses
-/// leave it, and none makes it smaller. What is stable of the own casts is a case of what is stable of each sender's, of which no more
-/// is stable than the member has delivered.
+/// One more fact never lowers the number of casts of any sender that any member is known to have delivered. A received status raises the
+/// numbers of its own sender, the times of the deliveries of a received cast raise those of their senders, and own casts and statuses
+/// change none. Stable own casts are a case of stable casts of each sender, of which no more is stable than the member has delivered.
 pub fn knowledge_of_every_sender_grows()
     ensures acknowledged { StatusIsAcknowledgedOf }
     ensures cast_acknowledged { CastIsAcknowledgedOf }

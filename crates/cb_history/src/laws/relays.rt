@@ -2,7 +2,7 @@
 
 ghost use Rattle.cb_history.specs.RelayLaws.{DeliveredWhole, NothingIsRelayed, RelaysStay, PutIsRelayed, TrimIsRelayed, RelaysAreHandedOn};
 
-/// Of a received cast, be it forged, either all messages are delivered or none.
+/// All messages of a received cast are delivered, or none, even if the cast is forged.
 pub fn casts_are_delivered_whole()
     ensures { DeliveredWhole }
 {}

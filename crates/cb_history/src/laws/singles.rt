@@ -2,8 +2,8 @@
 
 ghost use Rattle.cb_history.specs.Singles.{SinglesOfOneMessage, SinglesOfSingles, SinglesAreAsMany, SinglesAreNumbered, SinglesAreSingle, SinglesWithOneMore, SinglesAreTheSame};
 
-/// The messages of a cast can be carried one by one, the first with the changes of the cast and the others with none: the same
-/// messages are then there and expanded, at the same times.
+/// The messages of a cast can be carried one by one, the first with the changes of the cast and the others with none. The same messages
+/// are then there and expanded, and where no cast is empty they have the same times.
 pub fn singles_say_what_casts_say()
     ensures one { SinglesOfOneMessage }
     ensures again { SinglesOfSingles }

@@ -1,9 +1,9 @@
-//! What one more fact does to the view.
+//! The effect of one more fact on the view.
 
 ghost use Rattle.cb_history.specs.ViewLaws.{ViewWithOneMore, ViewGrows, NothingReadyIsLeft, NextIsTheOnlyCandidate};
 
-/// What one more fact does to the view, and more facts leave of it, and what a drain leaves: nothing that is ready. Of each sender
-/// only the next message can be.
+/// One more fact adds to the view its own message and the deliveries that it makes possible, and later facts keep these. After them no
+/// message is ready; of each sender only the next message can be ready.
 pub fn view_with_one_more_fact()
     ensures grows { ViewWithOneMore }
     ensures stays { ViewGrows }

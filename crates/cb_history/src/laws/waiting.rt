@@ -1,4 +1,4 @@
-//! What the facts of a member do to the messages that wait.
+//! The effect of a member's facts on the messages that wait.
 
 ghost use Rattle.cb_history.specs.WaitingLaws.{OwnFactsLeaveWaiting, CastWaitsForItsTurn, NextTakenCanBeHeld, HoldingTakesOneMore, AllTakenIsWaiting};
 

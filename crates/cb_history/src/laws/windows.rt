@@ -2,8 +2,8 @@
 
 ghost use Rattle.cb_history.specs.WindowLaws.{CastsAreNear, OwnCastsAreNearStable};
 
-/// Nobody runs ahead of a window: a cast that is there is at most a window above what is delivered of its sender, and a member's own
-/// casts are at most a window above what is stable.
+/// Nobody is more than a window ahead: a cast that is there is at most a window above the delivered number of its sender, and a member's
+/// own casts are at most a window above the stable ones.
 pub fn casts_stay_in_their_windows()
     ensures there { CastsAreNear }
     ensures own { OwnCastsAreNearStable }

@@ -32,7 +32,7 @@ use cb_gaps::Admission;
 use cb_history::ArriveRefusal;
 use cb_times::VectorTime;
 
-/// What the rules say of a unit that is not refused.
+/// The verdict of the rules on a unit that is not refused.
 #[derive(Clone, Copy, Drop)]
 pub enum Judged {
     Repeat,
@@ -242,7 +242,7 @@ fn judge_own(delivered: u32, last: u32) -> Result<Judged, ArriveRefusal>
     }
 }
 
-/// What a reorder buffer says of another member's unit.
+/// The verdict of a reorder buffer on another member's unit.
 fn judge_other(admission: Admission) -> Result<Judged, ArriveRefusal>
     ensures { FollowsFrom admission result }
 {

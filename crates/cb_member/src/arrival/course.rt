@@ -24,7 +24,7 @@ use cb_frames::{Burst, Cast, Unit};
 use cb_times::{Name, NoMemory, VectorTime};
 use std::alloc::{AllocError, Global};
 
-/// What a unit does that is taken, and what is made for it, so that nothing then takes memory.
+/// The effect of a unit that is taken, with all that is made for it beforehand, so that taking it needs no memory.
 #[derive(Drop)]
 pub enum Course {
     /// It comes before its turn, and waits for the casts before it; nothing is delivered. `spares` are for the times of its messages.
@@ -201,7 +201,7 @@ impl State {
     }
 }
 
-/// What is delivered of a burst whose first message has this time.
+/// The deliveries of a burst whose first message has this time.
 fn deliveries_of(alloc: Global, burst: &Burst, time: &VectorTime) -> Result<Vec<Event>, NoMemory>
     requires numbered { IsNumberedCast (burst_fields burst.now) }
     requires member { burst.now.sender < length time.now }

@@ -57,7 +57,7 @@ impl State {
         }
     }
 
-    /// What the unit lets be expanded, and what goes once that waits as well. Only of that copies are made.
+    /// The deliveries that follow once the messages wait as well that the unit lets be expanded. Only these are copied.
     fn deliveries_of(&mut self, unit: &Unit) -> Result<Vec<Message>, NoMemory>
         requires { CanFollow (unit_fields unit.now) self.old }
         ensures same { OnlySettles self.old self.new }

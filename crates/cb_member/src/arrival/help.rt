@@ -14,7 +14,7 @@ use cb_history::{ArriveRefusal, Identity, Outgoing};
 use cb_times::NoMemory;
 
 impl State {
-    /// What is sent in answer to a help frame, which changes nothing.
+    /// The frames sent in answer to a help frame, which changes nothing.
     pub fn answer_help(&self, help: &Help) -> Result<Vec<Outgoing>, ArriveRefusal>
         requires { IsState self.now }
         ensures { IsAnswered self.now (HelpFrame (help_fields help.now)) result }

@@ -15,7 +15,7 @@ use cb_times::NoMemory;
 use std::alloc::Global;
 
 impl State {
-    /// What is sent in answer to a request, which changes nothing.
+    /// The frames sent in answer to a request, which changes nothing.
     pub fn answer_request(&self, request: &Request) -> Result<Vec<Outgoing>, ArriveRefusal>
         requires { IsState self.now }
         ensures { IsAnswered self.now (RequestFrame (request_fields request.now)) result }

@@ -19,7 +19,7 @@ use cb_history::laws::relays_keep_what_is_handed_on;
 use cb_history::{ArriveRefusal, Identity};
 use cb_times::VectorTime;
 
-/// What the rules say of a status that is not refused.
+/// The verdict of the rules on a status that is not refused.
 #[derive(Clone, Copy, Drop)]
 pub enum Judged {
     /// It changes the state, where the history has room for one more entry.
@@ -27,14 +27,14 @@ pub enum Judged {
     NoNews,
 }
 
-/// What the definitions say of a status of this group.
+/// The verdict of the definitions on a status of this group.
 #[derive(Clone, Copy, Drop)]
 pub struct Verdict {
     pub is_impossible: bool,
     pub is_news: bool,
 }
 
-/// What the values of a status say to a member.
+/// The meaning of a status's values for a member.
 #[derive(Clone, Copy, Drop)]
 pub struct Said {
     /// How many of its casts the status' sender delivered.
@@ -149,7 +149,7 @@ fn is_ahead(time: &VectorTime, values: &[Change]) -> bool
         .any(|value| counted(counts, value.field) < value.amount)
 }
 
-/// What the values of another's status say to this member.
+/// The meaning of the values of another's status for this member.
 fn said_by(seat: Identity, knowledge: &Knowledge, status: &Status) -> Said
     requires known { length knowledge.now.known ≡ seat.group.size }
     requires acks { knowledge.now.acks.size ≡ seat.group.size }

@@ -198,7 +198,7 @@ impl State {
         })
     }
 
-    /// What is sent in answer to a request, which changes nothing.
+    /// The frames sent in answer to a request, which changes nothing.
     #[inline(never)]
     fn receive_request(&self, request: &Request) -> Result<Taken, ArriveRefusal>
         requires { IsCore (core_of self.now) }
@@ -213,7 +213,7 @@ impl State {
         }
     }
 
-    /// What is sent in answer to a help frame, which changes nothing.
+    /// The frames sent in answer to a help frame, which changes nothing.
     #[inline(never)]
     fn receive_help(&self, help: &Help) -> Result<Taken, ArriveRefusal>
         requires { IsCore (core_of self.now) }

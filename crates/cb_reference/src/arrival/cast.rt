@@ -19,7 +19,7 @@ use crate::view::is_there;
 use bytes::Bytes;
 use cb_history::{Arrival, ArriveRefusal};
 
-/// What the rules say of a cast that is not refused.
+/// The verdict of the rules on a cast that is not refused.
 #[derive(Clone, Copy, Drop)]
 pub enum Judged {
     Repeat,

@@ -49,7 +49,7 @@ fn check(member: &ReferenceMember, help: &Help) -> Result<(), ArriveRefusal>
     Ok(())
 }
 
-/// What is sent in answer: at the helper the first 64 frames that it hands on and that are asked for.
+/// The frames sent in answer: at the helper the first 64 frames that it hands on and that are asked for.
 fn sent_in_answer(past: &Past<'_>, help: &Help) -> Result<Vec<Outgoing>, NoMemory>
     ensures { IfOk result (λ out. out.items ≡ sent_in_answer past.now.seat (facts_in past.now)
         (HelpFrame (help_fields help.now))) }

@@ -47,7 +47,7 @@ fn window<'a>(past: &'a Past<'_>) -> Result<Vec<&'a CastRead>, NoMemory>
     ending_above(alloc, &own, stable(past))
 }
 
-/// What is sent in answer: at the asked member the first 64 frames of its window that are asked for.
+/// The frames sent in answer: at the asked member the first 64 frames of its window that are asked for.
 fn sent_in_answer(past: &Past<'_>, request: &Request) -> Result<Vec<Outgoing>, NoMemory>
     ensures { IfOk result (λ out. out.items ≡ sent_in_answer past.now.seat (facts_in past.now)
         (RequestFrame (request_fields request.now))) }

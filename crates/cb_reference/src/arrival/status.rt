@@ -94,7 +94,7 @@ fn is_news(past: &Past<'_>, status: &Status) -> bool
             || tells_of_deliveries(past, status.sender, &status.values))
 }
 
-/// What the rules say of a status that is not refused.
+/// The verdict of the rules on a status that is not refused.
 #[derive(Clone, Copy, Drop)]
 pub enum Judged {
     /// It changes the state, and the history has room for one more entry.

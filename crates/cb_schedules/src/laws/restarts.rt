@@ -22,12 +22,12 @@ ghost use Rattle.cb_schedules.specs.RoundLaws.{rounds_to_deliver};
 ghost use Rattle.cb_schedules.specs.SentLaws.{HelpersAreThird, NobodyAsksItself, OneNameSameBytes};
 ghost use Rattle.cb_schedules.specs.SentLaws.{SentCastsAreOwn, SentStatusesAreSo};
 
-/// Where each entry is written before what it puts out is sent and its events are handed out, a run with restarts is a run of the
-/// schedule without the steps that were dropped. The steps of this schedule ask for just the calls that were entered and not dropped,
-/// and what arrives in it was sent. Its run has the histories that the members have, all frames that were sent are frames of it, and
-/// what a caller was handed is the beginning of its member's events.
+/// If each entry is written before its frames are sent and its events are shown, a run with restarts is a run of the schedule without
+/// the steps that were dropped. The steps of this schedule ask for just the calls that were entered and not dropped, and its arrivals
+/// were sent. Its run has the histories of the members, all frames that were sent are frames of it, and the events that a caller
+/// received are the beginning of its member's events.
 ///
-/// Members may end at any moment and as often as they like, several of them at once.
+/// Members may end at any moment and any number of times, several of them at once.
 pub fn restarts_leave_a_schedule()
     ensures calls { EachJournaledRun (BesideWhatIsLeft AsksForWhatWasEntered) }
     ensures arrivals { EachJournaledRun (BesideWhatIsLeft ArrivalsWereSent) }
@@ -36,21 +36,21 @@ pub fn restarts_leave_a_schedule()
     ensures handed { EachJournaledRun (BesideWhatIsLeft HandedOutItsEvents) }
 {}
 
-/// Writing first forbids nothing: every schedule can be carried out so, each entry written and each frame sent at once, with the same
-/// histories and frames as its run.
+/// The order of write and send forbids no schedule: every schedule can be carried out with each entry written and each frame sent at
+/// once, with the same histories and frames as its run.
 pub fn schedules_can_be_journaled()
     ensures { SchedulesCanBeJournaled }
 {}
 
-/// So the headline holds of it, word for word: the members' casts and deliveries are a run of the causal machine, each has delivered
-/// just the closed arrivals, and the times in the bytes compare as happened-before does.
+/// The headline holds of a run with restarts, word for word: the members' casts and deliveries are a run of the causal machine, each has
+/// delivered just the closed arrivals, and the times in the bytes compare as happened-before does.
 pub fn causal_broadcast_with_restarts()
     ensures headline { EachJournaledRun (OfWhatIsLeft Headline) }
     ensures causal { EachJournaledRun (OfWhatIsThere IsCausalBroadcast) }
 {}
 
-/// What was sent, before a restart or after it, says what is so. No number is used twice: cast frames that hold one name have the same
-/// bytes.
+/// Each frame that was sent, before a restart or after it, is true. No number is used twice: cast frames that hold one name have the
+/// same bytes.
 pub fn frames_outlive_restarts()
     ensures casts { EachJournaledRun (OfWhatIsThere SentCastsAreOwn) }
     ensures bytes { EachJournaledRun (OfWhatIsThere OneNameSameBytes) }
@@ -59,23 +59,23 @@ pub fn frames_outlive_restarts()
     ensures helps { EachJournaledRun (OfWhatIsThere HelpersAreThird) }
 {}
 
-/// No step takes back what was sent, handed out or written, a restart neither. What is written and was not handed out, before or after a
-/// restart, is handed out by as many steps, in its order.
+/// No step takes back a frame that was sent, an event that was shown or an entry that was written, and neither does a restart. Written
+/// entries whose events were not shown, before or after a restart, are shown by that many steps, in their order.
 pub fn nothing_is_taken_back()
     ensures back { StepsTakeNothingBack }
     ensures shown { WhatIsWrittenIsHandedOut }
 {}
 
-/// At each moment what a member has written is a legal history, with which it can be resumed, where its limit is one that histories can
-/// have.
+/// At each moment the written entries of a member are a legal history, from which it can be resumed, if its limit is one that histories
+/// can have.
 pub fn what_is_written_can_be_resumed()
     ensures { WhatIsWrittenIsLegal }
 {}
 
-/// So it is with cores, which keep no history beside their journal. With every limit that leaves an entry for each step, members with
-/// journals do what cores with journals do. What is left of any run of these, however long, is a run of cores: it has their histories,
-/// their frames and the events handed out. The headline holds of it, no number is used twice, nothing is taken back, and what is
-/// written is handed out.
+/// Cores, which keep no history beside their journal, come back as members do. With every limit that leaves an entry for each step,
+/// members with journals do what cores with journals do. The steps of any run of these that were not dropped, however many, are a run of
+/// cores: it has their histories, their frames and the events that were shown. The headline holds of it, no number is used twice,
+/// nothing is taken back, and written entries are shown.
 pub fn cores_come_back_as_members_do()
     ensures alike { JournaledCoresRunAsMembers }
     ensures calls { EachJournaledRunOfCores (BesideWhatCoresLeave AsksForWhatWasEntered) }
@@ -89,16 +89,16 @@ pub fn cores_come_back_as_members_do()
     ensures shown { WhatCoresWroteIsHandedOut }
 {}
 
-/// The order is needed. A member that sends before it writes may use one name for two messages, and one that hands out before it writes
-/// may have to take it back.
+/// A member that sends before it writes may use one name for two messages, and one that shows events before it writes may have to take
+/// them back: the order of write and send is needed.
 pub fn sending_first_is_wrong()
     ensures twice { SendingFirstUsesANameTwice }
     ensures back { HandingOutFirstIsTakenBack }
 {}
 
-/// Behind restarts members catch up: in rounds in which nobody ends, one round and W / 64 more, rounded up, where W is the window and no
-/// history is found full, bring everybody everything. That is whatever was lost, what waited when a member ended as well. After one
-/// more all is stable, and everybody knows it.
+/// After restarts members catch up: in rounds in which nobody ends, one round and W / 64 more, rounded up, where W is the window and no
+/// history is found full, bring everybody every message, whatever was lost, and also the messages that waited when a member ended. After
+/// one more all is stable, and everybody knows it.
 pub fn rounds_repair_behind_restarts()
     ensures delivered { BehindJournaledRounds rounds_to_deliver EverybodyHasEverything }
     ensures same { BehindJournaledRounds rounds_to_deliver EverybodyHasTheSame }

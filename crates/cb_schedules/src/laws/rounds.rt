@@ -13,7 +13,7 @@ ghost use Rattle.cb_schedules.specs.RoundLaws.{RoundsCastNothing, RoundsExpand};
 ghost use Rattle.cb_schedules.specs.RoundLaws.{one_round, rounds_to_be_stable, rounds_to_deliver};
 
 /// In a round every member ticks once, and each frame that is sent in it arrives once at everyone it was sent to; no frame that was sent
-/// before arrives. What is sent in answer arrives without sending anything, and that is where a round ends.
+/// before arrives. The answers arrive and send no frame themselves, and that is the end of the round.
 pub fn a_round_is_a_tick_of_each_and_its_arrivals()
     ensures ticks { EachTicksOnce }
     ensures arrives { EachArrivesOnce }
@@ -32,20 +32,20 @@ pub fn room_for_each_step_is_enough()
     ensures { RoomForEachStepIsEnough }
 {}
 
-/// After one round everybody has heard of every cast. From then on each round expands with each member, of each other, 64 casts more,
-/// or all that there are.
+/// After one round everybody has heard of every cast. Each later round expands with each member, of each other, 64 casts more, or all
+/// that there are.
 pub fn rounds_tell_and_bring()
     ensures heard { BehindRounds one_round EverybodyHasHeard }
     ensures expands { RoundsExpand }
 {}
 
-/// Where everything that was cast has arrived everywhere, everything is delivered everywhere.
+/// If every cast has arrived everywhere, every cast is delivered everywhere.
 pub fn what_has_arrived_everywhere_is_delivered()
     ensures { EachSchedule ArrivedEverywhereIsDelivered }
 {}
 
 /// From every state that any schedule reaches, whatever was lost before: after one round and W / 64 more, rounded up, where W is the
-/// window and no history is found full in them, every member has delivered every message that was cast. So all have the same messages,
+/// window and no history is found full in them, every member has delivered every message that was cast. All then have the same messages,
 /// each in an order that causality allows, and nobody lacks anything that it has heard of.
 ///
 /// With a window of up to 64 these are two rounds, and with a wider one at most five.
@@ -57,14 +57,15 @@ pub fn a_few_rounds_repair_whatever_was_lost()
     ensures few { TheseAreFew }
 {}
 
-/// After one round more every member knows that all its casts are delivered everywhere, and keeps none of their frames. It knows it
-/// of the casts of all others too.
+/// One round after that every member knows that all its casts are delivered everywhere, and keeps none of their frames. It knows it of
+/// the casts of all others too.
 pub fn one_round_more_makes_everything_stable()
     ensures stable { BehindRounds rounds_to_be_stable EverythingIsStable }
     ensures known { BehindRounds rounds_to_be_stable EverybodyKnowsWhatIsStable }
 {}
 
-/// From then on no history changes, whatever ticks, asks for help and arrives, until somebody casts. So every further round is quiet.
+/// Once everything is stable no history changes, whatever ticks, asks for help and arrives, until somebody casts. Every further round is
+/// quiet.
 pub fn then_nothing_changes_any_more()
     ensures nothing { BehindRounds rounds_to_be_stable NothingChangesAnyMore }
     ensures rounds { FurtherRoundsAreQuiet }

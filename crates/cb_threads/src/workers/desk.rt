@@ -1,4 +1,4 @@
-//! What a worker is: what it works with, where it works, and what it hands back.
+//! A worker: its parts, its desk, and its result.
 
 ghost use Rattle.std.specs.Prelude.{ℕ};
 ghost use Rattle.cb_threads.specs.declared.workers.desk.Worked.{Worked};
@@ -27,7 +27,7 @@ pub struct Worker<D, E, L: Ledger> {
     pub end: E,
 }
 
-/// What a worker hands back: what it worked with, its seat, and what it counted.
+/// The result of a worker: its part, its seat, and its counts.
 #[derive(Drop)]
 pub struct Worked<D, L: Ledger> {
     pub part: D,
@@ -42,11 +42,11 @@ pub struct Worked<D, L: Ledger> {
     pub refused: u64,
 }
 
-/// What a thread runs: a worker, from its first turn to its last.
+/// The job of a thread: a worker, from its first turn to its last.
 pub trait Job<L: Ledger> {
     type Part: Send + Drop;
 
-    /// What holds of what it hands back, where so many turns may be made.
+    /// The promise for its result, where that number of turns may be made.
     ghost kept: { Self → ℕ → Worked Self.Part L → Type 0 };
 
     /// Works at this desk.

@@ -18,7 +18,7 @@ use std::sync::Wait;
 use std::sync::ledger::Ledger;
 use std::time::Clock;
 
-/// What a talker said, where it casts nothing.
+/// The answer of a talker that casts nothing.
 #[derive(Clone, Copy)]
 struct Said {
     turn: Turn,
@@ -33,9 +33,9 @@ pub struct Talking<T> {
     talker: T,
     /// How many events it has seen.
     seen: usize,
-    /// What the news are copied into, kept from one time to the next.
+    /// The place for copies of the news, kept from one time to the next.
     room: Vec<Event>,
-    /// What could not be cast yet.
+    /// Payloads that could not be cast yet.
     waiting: Option<Payloads>,
 }
 
@@ -46,8 +46,8 @@ impl<T: Talker + Send + Drop> Role for Talking<T> {
 
     ghost failed = { λ _. 0 };
 
-    /// What waits is cast before the talker is asked again. Only the casts of a quick talker are
-    /// gathered: any other may think for long before its next.
+    /// Waiting payloads are cast before the talker is asked again. Only the casts of a quick talker
+    /// are gathered: any other may think for long before its next.
     fn turn<L: Ledger, R: Wait + Clock>(
         &mut self,
         rt: &R,
@@ -120,7 +120,7 @@ impl<T: Talker> Talking<T> {
         self.seen = self.seen.saturating_add(said.count);
     }
 
-    /// What the talker says to copies of the news, while the member works on.
+    /// The talker's answer to copies of the news, while the member works on.
     fn ask_with_copies<L: Ledger, R: Wait>(
         &mut self,
         rt: &R,
@@ -193,7 +193,7 @@ impl<T: Talker> Talking<T> {
     }
 }
 
-/// What becomes of the turn where nothing is cast, how many of so many news the talker saw, and what
+/// The outcome of the turn where nothing is cast, how many of so many news the talker saw, and what
 /// it wants to cast. Out of memory it saw none, and is shown the same again.
 fn parted(answer: Result<Talk, NoMemory>, count: usize) -> (Said, Option<Payloads>)
     ensures seen { MatchResult answer (λ _. result.0.count ≡ count) (λ _. result.0.count ≡ 0) }
@@ -214,7 +214,7 @@ fn to_all(bytes: Bytes) -> Outgoing {
     Outgoing { to: None, bytes }
 }
 
-/// What the talker says to the news.
+/// The talker's answer to the news.
 fn asked<T: Talker>(talker: &mut T, news: &[Event]) -> (Said, Option<Payloads>) {
     parted(talker.next(news), news.len())
 }

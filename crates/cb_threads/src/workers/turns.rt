@@ -35,11 +35,11 @@ pub enum Turn {
     Finished,
 }
 
-/// What a worker works with failed.
+/// The part of a worker failed.
 #[derive(Clone, Copy)]
 pub struct Failed;
 
-/// What a worker does in its turns, and with what.
+/// The work of a worker in its turns, and its part.
 pub trait Role {
     type Part: Send + Drop;
 

@@ -1,4 +1,4 @@
-//! What `confer --help` and each subcommand's `--help` say at their head, with an example of each.
+//! The head of `confer --help` and of each subcommand's `--help`, with an example of each.
 
 /// Of the program.
 pub const PROGRAM: &str = "\

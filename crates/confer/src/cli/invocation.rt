@@ -1,4 +1,4 @@
-//! What the words order.
+//! The order of the words.
 
 ghost use Rattle.std.specs.Prelude.{◌≡◌, [], List, codes, map, IfOk, IfErr, IfSome, MatchOption};
 ghost use Rattle.clap.specs.Words.{Text, found_of};
@@ -27,7 +27,7 @@ pub enum Invocation {
     Run(RunSetting),
 }
 
-/// What the words order, of which the first is the program's name.
+/// The order of the words, of which the first is the program's name.
 pub fn invocation_of<S: AsStr>(alloc: Global, words: &[S]) -> Result<Invocation, Fault>
     ensures ok { IfOk result (Orders (map S.text words.now)) }
     ensures err { IfErr result (RefusesWords (map S.text words.now)) }
@@ -42,7 +42,7 @@ pub fn invocation_of<S: AsStr>(alloc: Global, words: &[S]) -> Result<Invocation,
     named(name, options)
 }
 
-/// What the subcommand of this name orders.
+/// The order of the subcommand of this name.
 fn named(name: &str, options: &ArgMatches<'_>) -> Result<Invocation, Fault>
     ensures ok { (words : List Text)
         → NamesSubcommand words name.now (rows_of (found_of options.now))
@@ -96,7 +96,7 @@ fn running(options: &ArgMatches<'_>) -> Result<Invocation, Fault>
     }
 }
 
-/// What `confer run` is to run, where each number is one within its bounds.
+/// The setting of `confer run`, where each number is within its bounds.
 fn setting_of(options: &ArgMatches<'_>) -> Option<RunSetting>
     ensures { IfSome result (HasSetting (rows_of (found_of options.now))) }
 {

@@ -1,4 +1,4 @@
-//! What the words order, done.
+//! Carries out the order of the words.
 
 ghost use Rattle.std.specs.Prelude.{◌≡◌, if◌then◌else◌, map, IfOk, IfErr, IfSome, MatchOption};
 ghost use Rattle.confer_text.specs.Streams.{WritesPart};

@@ -1,4 +1,4 @@
-//! What is said on standard error of a run that stops.
+//! The message on standard error of a run that stops.
 
 ghost use Rattle.std.specs.Prelude.{◌≡◌, IfSome};
 ghost use Rattle.clap.specs.Words.{kind_of};
