@@ -40,6 +40,8 @@ pub mod Once
 pub mod HelpSteps
 pub mod Outliving
 pub mod HelpRoundLaws
+pub mod RoundsAmong
+pub mod RoundsAmongLaws
 pub mod Room
 pub mod Within
 pub mod Entered
