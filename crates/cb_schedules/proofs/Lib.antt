@@ -3,6 +3,7 @@ mod RoundRows
 mod ForgettingRows
 mod HelpRows
 mod HelpRoundRows
+mod RoundsAmongRows
 pub mod RestartRows
 pub mod GoingOn
 pub mod Lists

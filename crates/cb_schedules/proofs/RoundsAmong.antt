@@ -23,17 +23,18 @@ use Rattle.cb_history.proofs.Times.{seen_is_there}
 use Rattle.cb_history.proofs.GapsLater.{lacking_is_above}
 use Rattle.cb_history.proofs.Buffers.{cast_of_is_in, in_is_cast_of}
 use Rattle.cb_history.proofs.Agreement.{all_at}
-use Rattle.cb_schedules.specs.Schedule.{Setting, IsSetting, seat_at, ArriveStep, TickStep, Schedule, SentFrame, GroupState, run_from}
+use Rattle.cb_schedules.specs.Schedule.{Setting, IsSetting, seat_at, Step, ArriveStep, TickStep, Schedule, SentFrame, GroupState, run_from}
 use Rattle.cb_schedules.specs.Messages.{facts_at, sent_casts}
 use Rattle.cb_schedules.specs.Honest.{IsHonest}
 use Rattle.cb_schedules.specs.Consistent.{IsConsistent}
 use Rattle.cb_schedules.specs.Rounds.{receivers}
 use Rattle.cb_schedules.specs.RoundLaws.{IsNoCastStep, expanded_at}
 use Rattle.cb_schedules.specs.HelpRounds.{all_but}
+use Rattle.cb_schedules.specs.HelpRoundLaws.{member_of_step}
 use Rattle.cb_schedules.specs.RoundsAmong.{is_given, given_members, given_tick, given_receivers, given_take, given_take_since, helpers_among, asks_for_help, handed_by, number_of, takes_again, given_help, given_ticked, given_answered, given_supplied, round_among}
 use Rattle.cb_schedules.proofs.GoingOn.{runs_join_from}
 use Rattle.cb_schedules.proofs.Courses.{consistent_from}
-use Rattle.cb_schedules.proofs.Lists.{in_map, in_flat, all_both, all_map, all_flat}
+use Rattle.cb_schedules.proofs.Lists.{in_map, in_flat, all_both, all_map, all_flat, all_weaken}
 use Rattle.cb_schedules.proofs.Members.{stands_at, delivered_at_most}
 use Rattle.cb_schedules.proofs.Sending.{sent_frame, honest_text}
 use Rattle.cb_schedules.proofs.Knowing.{acknowledged_of_is_so, near_is_so}
@@ -52,29 +53,42 @@ Given list j = is_given list j ≡ true
 given_is_in : (size : ℕ) (list : List ℕ) (k : ℕ) → k < size → Given list k → IsIn k (given_members size list)
 given_is_in size list k lt given = in_filter (is_given list) (range_with_len 0 size) k given (in_range 0 size k (omega arith) (omega (arith, lt)))
 
--- ---- the steps cast nothing
+-- ---- the steps are theirs
 
-taking_casts_nothing : (size : ℕ) (list : List ℕ) (number : ℕ) (frames : List SentFrame) → AllByRecursion IsNoCastStep (given_take size list number frames)
-taking_casts_nothing size list number [] = tt
-taking_casts_nothing size list number (frame ∷ frames) =
-    all_both IsNoCastStep (map (λ j. ArriveStep j number) (given_receivers size list frame)) (given_take size list (number + 1) frames)
-    (all_map IsNoCastStep (λ j. ArriveStep j number) (given_receivers size list frame) (λ j there. tt)) (taking_casts_nothing size list (number + 1) frames)
+-- one of them acts, and casts nothing
+abbrev pub IsTheirs : List ℕ → Step → Type 0
+IsTheirs list step = Given list (member_of_step step) × IsNoCastStep step
 
-taking_again_casts_nothing : (j : ℕ) (sent : List SentFrame) (outs : List Outgoing) → AllByRecursion IsNoCastStep (takes_again j sent outs)
-taking_again_casts_nothing j sent outs =
-    all_flat IsNoCastStep (λ out. map (ArriveStep j) (number_of out.bytes 0 sent)) outs (λ out there.
-    all_map IsNoCastStep (ArriveStep j) (number_of out.bytes 0 sent) (λ n at. tt))
+ticks_are_theirs : (size : ℕ) (list : List ℕ) → AllByRecursion (IsTheirs list) (given_tick size list)
+ticks_are_theirs size list = all_map (IsTheirs list) TickStep (given_members size list) (λ j there. ((filter_in (is_given list) (range_with_len 0 size) j there).0, tt))
+
+takes_are_theirs : (size : ℕ) (list : List ℕ) (number : ℕ) (frames : List SentFrame) → AllByRecursion (IsTheirs list) (given_take size list number frames)
+takes_are_theirs size list number [] = tt
+takes_are_theirs size list number (frame ∷ frames) =
+    all_both (IsTheirs list) (map (λ j. ArriveStep j number) (given_receivers size list frame)) (given_take size list (number + 1) frames)
+    (all_map (IsTheirs list) (λ j. ArriveStep j number) (given_receivers size list frame) (λ j there. ((filter_in (is_given list) (receivers size frame.from frame.to) j there).0, tt)))
+    (takes_are_theirs size list (number + 1) frames)
 
 module _ (setting : Setting) (list : List ℕ) (s : GroupState) where
   -- what arrives at member j of what it lacks of sender i
   abbrev pub help_of : ℕ → ℕ → Schedule
   help_of j i = takes_again j s.sent (handed_by setting list s j i (ranges_of (missing (seat_at setting j) (facts_at s j) i)))
 
-  helping_casts_nothing : AllByRecursion IsNoCastStep (given_help setting list s)
-  helping_casts_nothing =
-      all_flat IsNoCastStep (λ j. flat_map (help_of j) (all_but setting.group.size j)) (given_members setting.group.size list) (λ j there.
-      all_flat IsNoCastStep (help_of j) (all_but setting.group.size j) (λ i at.
-      taking_again_casts_nothing j s.sent (handed_by setting list s j i (ranges_of (missing (seat_at setting j) (facts_at s j) i)))))
+  help_is_theirs : AllByRecursion (IsTheirs list) (given_help setting list s)
+  help_is_theirs =
+      all_flat (IsTheirs list) (λ j. flat_map (help_of j) (all_but setting.group.size j)) (given_members setting.group.size list) (λ j there.
+      all_flat (IsTheirs list) (help_of j) (all_but setting.group.size j) (λ i at.
+      all_flat (IsTheirs list) (λ out. map (ArriveStep j) (number_of out.bytes 0 s.sent)) (handed_by setting list s j i (ranges_of (missing (seat_at setting j) (facts_at s j) i))) (λ out here.
+      all_map (IsTheirs list) (ArriveStep j) (number_of out.bytes 0 s.sent) (λ n found. ((filter_in (is_given list) (range_with_len 0 setting.group.size) j there).0, tt)))))
+
+cast_nothing : (list : List ℕ) (steps : Schedule) → AllByRecursion (IsTheirs list) steps → AllByRecursion IsNoCastStep steps
+cast_nothing list steps all = all_weaken (IsTheirs list) IsNoCastStep steps (λ step one. one.1) all
+
+taking_casts_nothing : (size : ℕ) (list : List ℕ) (number : ℕ) (frames : List SentFrame) → AllByRecursion IsNoCastStep (given_take size list number frames)
+taking_casts_nothing size list number frames = cast_nothing list (given_take size list number frames) (takes_are_theirs size list number frames)
+
+helping_casts_nothing : (setting : Setting) (list : List ℕ) (s : GroupState) → AllByRecursion IsNoCastStep (given_help setting list s)
+helping_casts_nothing setting list s = cast_nothing list (given_help setting list s) (help_is_theirs setting list s)
 
 -- ---- an arrival
 
@@ -196,13 +210,16 @@ module _ (setting : Setting) (list : List ℕ) (s : GroupState) where
   abbrev pub helps : Schedule
   helps = given_help setting list (given_supplied setting list s)
 
-  pub round_casts_nothing : AllByRecursion IsNoCastStep (round_among setting list s)
+  pub round_is_theirs : AllByRecursion (IsTheirs list) (round_among setting list s)
   unfolding round_among
-  round_casts_nothing =
-      all_both IsNoCastStep (given_tick setting.group.size list) (first_arrivals ++ (supplies ++ helps)) (ticks_cast_nothing (given_members setting.group.size list))
-      (all_both IsNoCastStep first_arrivals (supplies ++ helps) (taking_casts_nothing setting.group.size list (length s.sent) (drop (length s.sent) (given_ticked setting list s).sent))
-      (all_both IsNoCastStep supplies helps (taking_casts_nothing setting.group.size list (length (given_ticked setting list s).sent) (drop (length (given_ticked setting list s).sent) (given_answered setting list s).sent))
-      (helping_casts_nothing setting list (given_supplied setting list s))))
+  round_is_theirs =
+      all_both (IsTheirs list) (given_tick setting.group.size list) (first_arrivals ++ (supplies ++ helps)) (ticks_are_theirs setting.group.size list)
+      (all_both (IsTheirs list) first_arrivals (supplies ++ helps) (takes_are_theirs setting.group.size list (length s.sent) (drop (length s.sent) (given_ticked setting list s).sent))
+      (all_both (IsTheirs list) supplies helps (takes_are_theirs setting.group.size list (length (given_ticked setting list s).sent) (drop (length (given_ticked setting list s).sent) (given_answered setting list s).sent))
+      (help_is_theirs setting list (given_supplied setting list s))))
+
+  pub round_casts_nothing : AllByRecursion IsNoCastStep (round_among setting list s)
+  round_casts_nothing = cast_nothing list (round_among setting list s) round_is_theirs
 
   -- where the round ends
   round_ends : run_from setting s (round_among setting list s) ≡ run_from setting (given_supplied setting list s) helps

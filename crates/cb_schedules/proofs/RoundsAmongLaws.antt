@@ -29,10 +29,11 @@ use Rattle.cb_schedules.specs.Honest.{member_of}
 use Rattle.cb_schedules.specs.Consistent.{IsConsistent}
 use Rattle.cb_schedules.specs.Rounds.{FindNoneFull}
 use Rattle.cb_schedules.specs.RoundLaws.{IsNoCastStep, cast_count, expanded_at, rounds_to_deliver}
-use Rattle.cb_schedules.specs.RoundsAmong.{is_given, round_among, rounds_among, GivenHaveWhatAnyHad, RoundsAmongBringAll}
+use Rattle.cb_schedules.specs.HelpRoundLaws.{member_of_step}
+use Rattle.cb_schedules.specs.RoundsAmong.{is_given, round_among, rounds_among, GivenActAlone, RoundsAmongCastNothing, GivenHaveWhatAnyHad, RoundsAmongBringAll}
 use Rattle.cb_schedules.proofs.GoingOn.{runs_join_from}
 use Rattle.cb_schedules.proofs.Courses.{step_goes_on, consistent_from, runs_are_consistent}
-use Rattle.cb_schedules.proofs.Lists.{all_both}
+use Rattle.cb_schedules.proofs.Lists.{all_both, all_weaken}
 use Rattle.cb_schedules.proofs.Members.{stands_at, delivered_at_most}
 use Rattle.cb_schedules.proofs.Moments.{own_cast_of, has_there, has_seen, seen_has}
 use Rattle.cb_schedules.proofs.Closing.{seen_number, closed_is_seen}
@@ -41,7 +42,7 @@ use Rattle.cb_schedules.proofs.Later.{IsLater, later_itself, later_joins, delive
 use Rattle.cb_schedules.proofs.Happening.{FindNoneFullFrom, none_full_from}
 use Rattle.cb_schedules.proofs.Waves.{none_full_splits}
 use Rattle.cb_schedules.proofs.Spreading.{AreRounds, all_brought}
-use Rattle.cb_schedules.proofs.RoundsAmong.{Given, RoundWaves, round_casts_nothing, round_waves, help_comes}
+use Rattle.cb_schedules.proofs.RoundsAmong.{Given, IsTheirs, RoundWaves, round_is_theirs, round_casts_nothing, round_waves, help_comes}
 
 -- ---- what stood in a list at first
 
@@ -79,12 +80,19 @@ past_was_had setting is s inv steps k m earlier has before =
 
 -- ---- rounds
 
-pub rounds_cast_nothing : (setting : Setting) (list : List ℕ) (n : ℕ) (s : GroupState) → AllByRecursion IsNoCastStep (rounds_among setting list n s)
+rounds_are_theirs : (setting : Setting) (list : List ℕ) (n : ℕ) (s : GroupState) → AllByRecursion (IsTheirs list) (rounds_among setting list n s)
 unfolding rounds_among
-rounds_cast_nothing setting list zero s = tt
-rounds_cast_nothing setting list (suc n) s =
-    all_both IsNoCastStep (rounds_among setting list n s) (round_among setting list (run_from setting s (rounds_among setting list n s))) (rounds_cast_nothing setting list n s)
-    (round_casts_nothing setting list (run_from setting s (rounds_among setting list n s)))
+rounds_are_theirs setting list zero s = tt
+rounds_are_theirs setting list (suc n) s =
+    all_both (IsTheirs list) (rounds_among setting list n s) (round_among setting list (run_from setting s (rounds_among setting list n s))) (rounds_are_theirs setting list n s)
+    (round_is_theirs setting list (run_from setting s (rounds_among setting list n s)))
+
+pub given_act_alone : GivenActAlone
+given_act_alone setting list n s =
+    all_weaken (IsTheirs list) (λ step. is_given list (member_of_step step) ≡ true) (rounds_among setting list n s) (λ step one. one.0) (rounds_are_theirs setting list n s)
+
+pub rounds_cast_nothing : RoundsAmongCastNothing
+rounds_cast_nothing setting list n s = all_weaken (IsTheirs list) IsNoCastStep (rounds_among setting list n s) (λ step one. one.1) (rounds_are_theirs setting list n s)
 
 module _ (setting : Setting) (is : IsSetting setting) (list : List ℕ) (s : GroupState) (inv : IsConsistent setting s) where
   abbrev behind : ℕ → GroupState

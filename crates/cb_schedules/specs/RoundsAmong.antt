@@ -1,7 +1,7 @@
 -- Rounds among some members, however many others are silent: each of these ticks, what they sent arrives at them, and then each asks for
 -- help among them, and gets what they hand on.
 use Rattle.std.specs.Prelude.{ℕ, zero, suc, ◌+◌, ◌<◌, Bool, true, not, ◌&&◌, ◌==◌, nat_le, List, [], ◌∷◌, ◌++◌, length, take, drop, map, filter, bytes_eq, ◌≡◌, if◌then◌else◌}
-use Rattle.std.specs.List.{list_any, flat_map, range_with_len}
+use Rattle.std.specs.List.{AllByRecursion, list_any, flat_map, range_with_len}
 use Rattle.cb_times.specs.declared.name.Name.{Name}
 use Rattle.cb_frames.specs.declared.frame.TheConstants.{MOST_RANGES}
 use Rattle.cb_frames.specs.declared.frame.Range.{Range}
@@ -14,8 +14,9 @@ use Rattle.cb_history.specs.Answers.{sent_in_answer}
 use Rattle.cb_schedules.specs.Schedule.{Setting, IsSetting, seat_at, TickStep, ArriveStep, Schedule, SentFrame, GroupState, run_from, run}
 use Rattle.cb_schedules.specs.Messages.{facts_at, HasDelivered}
 use Rattle.cb_schedules.specs.Rounds.{receivers, FindNoneFull}
-use Rattle.cb_schedules.specs.RoundLaws.{rounds_to_deliver}
+use Rattle.cb_schedules.specs.RoundLaws.{IsNoCastStep, rounds_to_deliver}
 use Rattle.cb_schedules.specs.HelpRounds.{all_but}
+use Rattle.cb_schedules.specs.HelpRoundLaws.{member_of_step}
 
 -- ---- steps of those who are given
 
@@ -114,6 +115,17 @@ abbrev pub after_rounds_among : Setting → List ℕ → ℕ → GroupState → 
 after_rounds_among setting list n s = run_from setting s (rounds_among setting list n s)
 
 -- ---- what they do
+
+-- in no step does anybody else do anything or get anything
+abbrev pub GivenActAlone : Type 0
+GivenActAlone =
+    (setting : Setting) (list : List ℕ) (n : ℕ) (s : GroupState)
+    → AllByRecursion (λ step. is_given list (member_of_step step) ≡ true) (rounds_among setting list n s)
+
+-- and nobody casts
+abbrev pub RoundsAmongCastNothing : Type 0
+RoundsAmongCastNothing =
+    (setting : Setting) (list : List ℕ) (n : ℕ) (s : GroupState) → AllByRecursion IsNoCastStep (rounds_among setting list n s)
 
 -- each of the given members has delivered what any of them had delivered before, its own casts among it
 abbrev pub GivenHaveWhatAnyHad : Setting → List ℕ → GroupState → GroupState → Type 0
