@@ -4,6 +4,7 @@ mod ForgettingRows
 mod HelpRows
 mod HelpRoundRows
 mod RoundsAmongRows
+mod SilentRows
 pub mod RestartRows
 pub mod GoingOn
 pub mod Lists
