@@ -2,7 +2,7 @@
 use Rattle.std.proofs.Common.{◌≡◌, ◌≢◌, ℕ, ◌+◌, ◌<◌, ◌≤◌, ◌&&◌, Bool, true, false, not, eqb, leb, suc, List, [], ◌∷◌, ◌++◌, length, drop, take, map, Some, refl, sym, ap, subst, ◌∙◌, arith, inl, inr}
 use Rattle.std.specs.Prelude.{slice_get, bytes_eq}
 use Rattle.std.specs.List.{AllByRecursion, filter, flat_map, range_with_len}
-use Rattle.std.proofs.lemmas.Bool.{cases_lt, cases_eq, cond_both, eq-eqb, ne_eqb, le-leb, and_from}
+use Rattle.std.proofs.lemmas.Bool.{cases_lt, cases_eq, eq-eqb, ne_eqb, le-leb, and_from}
 use Rattle.std.proofs.lemmas.Slice.Eq.{bytes_eq-Decides}
 use Rattle.std.proofs.Math.Seq.{drop-append_seam}
 use Rattle.cb_frames.specs.declared.frame.TheConstants.{MOST_RANGES, MOST_FRAMES}
@@ -37,7 +37,7 @@ use Rattle.cb_schedules.proofs.Courses.{consistent_from}
 use Rattle.cb_schedules.proofs.Lists.{in_map, in_flat, all_both, all_map, all_flat, all_weaken}
 use Rattle.cb_schedules.proofs.Members.{stands_at, delivered_at_most}
 use Rattle.cb_schedules.proofs.Sending.{sent_frame, honest_text}
-use Rattle.cb_schedules.proofs.Knowing.{acknowledged_of_is_so, near_is_so}
+use Rattle.cb_schedules.proofs.Knowing.{near_is_so}
 use Rattle.cb_schedules.proofs.Lacking.{lacked_is_handed_on, handed_on_rise}
 use Rattle.cb_schedules.proofs.Later.{IsLater, later_joins, delivered_later, there_later, expanded_later, run_is_later}
 use Rattle.cb_schedules.proofs.Happening.{FindNoneFullFrom, IsSentSince, get_behind, ticks_cast_nothing}
