@@ -159,6 +159,7 @@ has g++ "c++" &&
     try "c++: the header" g++ -std=c++11 -Wall -Wextra -Werror -pedantic -fsyntax-only -x c++ c/jolunza.h
 has cargo "rust" && try "rust: cargo test" in_folder rust cargo test --offline
 try "python: unittest" in_folder python python3 -B -m unittest
+try "python: the stanzas of conformance/" python3 -B ../contrib/conformance.py
 try "python: pictures of traces" python3 -B ../checks/diagram.py
 has redis-server "python: a group over redis" && sees redis "python: a group over redis" &&
     try "python: a group over redis" python/redis.sh

@@ -1,6 +1,6 @@
 #!/usr/bin/env bash
-# All that has to pass: the gate (`rt ci`), the library and what uses it (bindings/check.sh), the tests of private items, and the quickest of the
-# scripts that refuse memory. Ends with another status than 0 where one fails. The last line counts what passed and failed in all four.
+# All that has to pass: the gate (`rt ci`), the library and what uses it (bindings/check.sh), the stanzas' files, the tests of private items, and
+# the quickest of the scripts that refuse memory. Ends with another status than 0 where one fails. The last line counts for all five.
 set -u -o pipefail
 cd "$(dirname "$0")/.." || exit 2
 work=$(mktemp -d)
@@ -37,6 +37,7 @@ add rt ci
 # what the gate has just proved need not be proved once more
 export JOLUNZA_OVER_GATE=1
 add bindings/check.sh
+add checks/stanzas.py
 add checks/inner-tests.sh
 add checks/refuse-rooms.sh
 echo "$passed passed, $failed failed"

@@ -14,6 +14,8 @@ import os
 import re
 import sys
 
+import stanzas
+
 DATA = "checks/wrong-bodies/refused.tsv"
 MOST_AT_THE_GATE, MOST_TESTS = 10, 2
 IN_C = ["cb_handle", "jolunza"]
@@ -51,11 +53,13 @@ def rows():
 
 
 def tests():
-    """The names of all tests: of the crates, of checks/inner-tests, and of bindings/c/calls.c."""
+    """The names of all tests and stanzas: of the crates, of checks/inner-tests, of bindings/c/calls.c, and of conformance/."""
     paths = glob.glob("crates/**/*.rt", recursive=True) + glob.glob("checks/inner-tests/**/*.test", recursive=True)
     found = set(re.findall(r"\btest_\w+", read("bindings/c/calls.c")))
     for path in paths:
         found.update(re.findall(r"#\[test\b[^\n]*\s+(?:(?:#\[|//)[^\n]*\s+)*(?:pub )?fn (\w+)", read(path)))
+    for path in glob.glob("conformance/*.txt"):
+        found.update(stanzas.name(sentence) for sentence in re.findall(r"(?m)^\n# (.*)", read(path)))
     return found
 
 

@@ -1,9 +1,9 @@
 #!/usr/bin/env bash
 # Looks at the pages: ends with 1, and a line for each fault, where
-#   - a line of README.md or docs/GUIDE.md has more than 120 characters, or a paragraph of either more than five lines; a line of text of any
-#     other page has more than 120; README.md or docs/PERFORMANCE.md more than 120 lines;
+#   - a line of README.md, docs/GUIDE.md, docs/RATTLE.md or docs/OPERATING.md has more than 120 characters, or a paragraph of these more than
+#     five lines; a line of text of any other page has more than 120; README.md or docs/PERFORMANCE.md more than 120 lines;
 #   - a page has a word that was exchanged for a better one, or checks/words.py counts more of a phrase than its limit;
-#   - a measured figure of the guide does not stand in docs/PERFORMANCE.md;
+#   - a measured figure of the guide or of OPERATING is not in docs/PERFORMANCE.md;
 #   - a link leads nowhere, to a file or to a heading, or a comment or script names a page of docs/ that is not there;
 #   - a code block differs from the text that it shows, or a fenced block is not closed;
 #   - docs/PROMISES.md is not what checks/promises.py makes of the contracts;
@@ -24,11 +24,11 @@ exec python3 - "$top" "${1:-all}" "${JOBS:-2}" <<'END'
 import concurrent.futures, os, re, shutil, subprocess, sys, tempfile, time
 
 top, what, jobs = sys.argv[1], sys.argv[2], int(sys.argv[3])
-NARROW = ["README.md", "docs/GUIDE.md"]
+NARROW = ["README.md", "docs/GUIDE.md", "docs/RATTLE.md", "docs/OPERATING.md"]
 MOST_LINES = {"README.md": 120, "docs/PERFORMANCE.md": 120}
 WIDE = ["schedules/README.md"]
 OLD_WORDS = r"\b(puts? out|lets? go of|told|(?:seen|shown) twice|beside the gate|by turns)\b"
-RUN = ["README.md", "docs/GUIDE.md", "docs/PROGRAM.md"]
+RUN = ["README.md", "docs/GUIDE.md", "docs/RATTLE.md", "docs/OPERATING.md", "docs/PROGRAM.md"]
 MOST_CHARACTERS, MOST_PARAGRAPH_LINES, MOST_SECONDS = 120, 5, 900
 faults = []
 
@@ -240,6 +240,7 @@ for page in (name for name in names if name.endswith(".md")):
     if page in RUN:
         todo.extend(examples(page, text))
 look_at_figures("docs/GUIDE.md", "## Memory")
+look_at_figures("docs/OPERATING.md", "### Journals measured")
 look_with("checks/promises.py")
 look_with("checks/words.py")
 look_with("checks/mutants.py", "check")

@@ -5,7 +5,7 @@
 #   checks/soak.sh [MINUTES]
 # It goes on for so many minutes, 60 where none are said, and at least 10,000,000 deliveries must be made in an hour, in runs of at most 500,000;
 # in fewer minutes as many less. Behind each run all must be cast and delivered, the audit of the histories must say yes, and no thread and no
-# descriptor may be left. The most memory that the process had until the audit must be what docs/GUIDE.md says of a group in threads, to 10 % up
+# descriptor may be left. The most memory that the process had until the audit must be what docs/RATTLE.md says of a group in threads, to 10 % up
 # or down; memory are the anonymous pages. Behind each third run comes one whose histories get full: it ends when its turns are used up, its
 # talkers were shown nothing that is not in a history, and its audit says yes. At the end it says what each kind of group did in all.
 # It wants python3 and the proved program: `rt run` in crates/bench leaves it in crates/bench/out. SOAKED=FILE takes another build.
@@ -27,8 +27,9 @@ longest_history, every_turn = 16_777_216, 4_294_967_295
 few_entries, few_turns = 200, 1_000
 # a run that takes longer hangs
 longest_run = 1_200
-# what docs/GUIDE.md says under "Memory", in bytes: a message among the events, an entry, its receipt, what a frame takes beside its bytes,
-# a name of what was delivered, and a place in a window and in a list of casts that wait for others
+# what docs/GUIDE.md says under "Memory", and docs/RATTLE.md of a group in threads, in bytes: a message among the events, an entry, its
+# receipt, what a frame takes beside its bytes, a name of what was delivered, and a place in a window and in a list of casts that wait for
+# others
 an_event, an_entry, a_receipt, around_a_frame, a_name, a_place, a_waiting = 104, 80, 88, 72, 8, 280, 48
 leeway = 0.1
 has_failed = False

@@ -20,10 +20,12 @@ say() {
 # the crate whose tests run on a mutant of the crate; `inner-tests` is `checks/inner-tests.sh` for that crate
 tests_of() {
     case $1 in
-        cb_varint | cb_frames | cb_times | cb_diffs | cb_delay | cb_gaps) echo tests_base ;;
+        cb_frames) echo conformance tests_base ;;
+        cb_varint | cb_times | cb_diffs | cb_delay) echo tests_base conformance ;;
+        cb_gaps) echo tests_base ;;
         cb_stability) echo tests_base inner-tests ;;
-        cb_member) echo tests_member inner-tests ;;
-        cb_reference) echo tests_member ;;
+        cb_member) echo conformance tests_member inner-tests ;;
+        cb_reference) echo conformance tests_member ;;
         cb_history) echo tests_group cb_lock ;;
         cb_causality | cb_rooms | cb_world | cb_trace) echo tests_group ;;
         cb_journal) echo tests_journal ;;
@@ -34,6 +36,16 @@ tests_of() {
         confer_text | confer_expand | confer_play | confer_audit) echo tests_confer ;;
         *) echo "$1" ;;
     esac
+}
+
+# plays the stanzas in the copy $1, and says of each, as of a test, whether it is answered as it stands there
+play() {
+    (cd "$1/crates/conformance" && rt try --steps 1000 --seconds 600 < stdin > "$1/printed") 2> "$1/said"
+    if [ -s "$1/printed" ]; then
+        "$1/checks/stanzas.py" tests "$1/printed"
+    else
+        cat "$1/said"
+    fi
 }
 
 # tries one edit, $2 of the crate $1, in a copy of its own
@@ -54,6 +66,8 @@ try() {
     for of in $(tests_of "$crate"); do
         if [ "$of" = inner-tests ]; then
             shown=$("$copy/checks/inner-tests.sh" "$crate" 2>&1)
+        elif [ "$of" = conformance ]; then
+            shown=$(play "$copy" 2>&1)
         else
             shown=$(cd "$copy/crates/$of" && rt try --test --seconds 600 2>&1)
         fi

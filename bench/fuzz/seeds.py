@@ -1,6 +1,6 @@
 #!/usr/bin/env python3
-"""Writes what the fuzzers begin with: FOLDER/member, FOLDER/stream and FOLDER/group get an input for each run of the worked examples
-(bindings/rust/tests/worked_examples.txt) and for each stored schedule (schedules/), FOLDER/journal the journals that the library's
+"""Writes what the fuzzers begin with: FOLDER/member, FOLDER/stream and FOLDER/group get an input for each member of the stanzas
+(conformance/members.txt) and for each stored schedule (schedules/), FOLDER/journal the journals that the library's
 members tell in these, whole and damaged. It speaks of inputs as member.c, stream.c, group.c, journal.c and input.c read them: of rooms
 and screens, and of numbers that no byte can say, it leaves lines out. It wants the library for Python (bindings/build.sh)."""
 import pathlib
@@ -26,8 +26,14 @@ def settings(size, window, me, limit):
     return bytes([size_byte, (window - 1) % 8, me, limit_byte])
 
 
+def bytes_in(words):
+    """Words of hexadecimal; 00*1024 is a byte that stands there that often."""
+    parts = (word.partition("*") for word in words)
+    return b"".join(bytes.fromhex(digits) * int(count or 1) for digits, _, count in parts)
+
+
 def payload_bytes(word):
-    return b"" if word == "-" else bytes.fromhex(word)
+    return bytes_in([word[1:]]) if word.startswith("x") else word[1:-1].encode()
 
 
 def raw(frame):
@@ -38,34 +44,39 @@ def member_call(words):
     if words[0] == "cast":
         return bytes([CAST, len(payload_bytes(words[1])) % 64])
     if words[0] == "burst":
-        lengths = [len(payload_bytes(word)) % 64 for word in words[1 : words.index("->")]]
+        lengths = [len(payload_bytes(word)) % 64 for word in words[1:]]
         return bytes([BURST, len(lengths) % 34, 1, *lengths])
     if words[0] == "take":
-        return raw(payload_bytes(words[1]))
+        return raw(bytes_in(words[1:]))
     if words[0] == "tick":
         return bytes([TICK])
     if words[0] == "help":
-        return bytes([HELP, int(words[1])])
+        return bytes([HELP, int(words[1]) % 256])
     return b""
 
 
+def limit_of(words):
+    """The limit of the history in a line `member M of N group G window W`, or with `history H` behind it."""
+    return int(words[9]) if len(words) > 9 else 1_000
+
+
 def lead(words):
-    """The settings of a line `member M of N group G window W history H`."""
-    return settings(int(words[3]), int(words[7]), int(words[1]), int(words[9]))
+    """The settings of such a line."""
+    return settings(int(words[3]), int(words[7]), int(words[1]), limit_of(words))
 
 
 def examples():
-    """Of each member of the worked examples the words of its line, and those of each call."""
+    """Of each member of the stanzas of which something is asked the words of its line, and those of each call."""
     runs = []
-    for line in (TOP / "bindings/rust/tests/worked_examples.txt").read_text().splitlines():
+    for line in (TOP / "conformance/members.txt").read_text().splitlines():
         words = line.split()
-        if not words or words[0] == "#":
+        if not words or line[0] in " #":
             continue
         if words[0] == "member":
             runs.append((words, []))
         else:
             runs[-1][1].append(words)
-    return runs
+    return [(words, calls) for words, calls in runs if calls]
 
 
 def spelled(number):
@@ -73,7 +84,7 @@ def spelled(number):
 
 
 def stream_of(calls):
-    frames = [payload_bytes(words[1]) for words in calls if words[0] == "take"]
+    frames = [bytes_in(words[1:]) for words in calls if words[0] == "take"]
     return b"".join(spelled(len(frame)) + frame for frame in frames if frame)
 
 
@@ -126,7 +137,7 @@ def schedules_as_inputs():
 
 def loaded_without_memory():
     """A request that was answered comes again, loaded, and is refused memory: its first allocation, or all. No other seed has that."""
-    cast_and_request = member_call(["cast", "-"]) + raw(bytes.fromhex("13070002010000"))
+    cast_and_request = member_call(["cast", '""']) + raw(bytes.fromhex("13070002010000"))
     for refused in [0, 1]:
         yield "member", settings(3, 4, 2, 1000) + cast_and_request + bytes([LOAD, 1, 1, SELDOM, 2, refused, ONE_PART, 0])
 
@@ -145,17 +156,17 @@ def told(member):
 
 
 def journal_of_example(words, calls):
-    """What the member of a worked example tells; nothing where it keeps no history, or is none."""
-    if int(words[9]) == 0:
+    """What the member of a stanza tells; nothing where it keeps no history, or is none."""
+    if limit_of(words) == 0:
         return b""
     try:
-        member = jolunza.Member(int(words[5]), int(words[3]), int(words[7]), int(words[1]), int(words[9]))
+        member = jolunza.Member(int(words[5]), int(words[3]), int(words[7]), int(words[1]), limit_of(words))
     except jolunza.Refusal:
         return b""
     by_word = {
         "cast": lambda call: made(member.cast, payload_bytes(call[1])),
-        "burst": lambda call: made(member.cast_burst, [payload_bytes(word) for word in call[1 : call.index("->")]]),
-        "take": lambda call: made(member.receive, payload_bytes(call[1])),
+        "burst": lambda call: made(member.cast_burst, [payload_bytes(word) for word in call[1:]]),
+        "take": lambda call: made(member.receive, bytes_in(call[1:])),
         "tick": lambda call: made(member.tick),
     }
     for call in calls:
@@ -163,13 +174,18 @@ def journal_of_example(words, calls):
     return told(member)
 
 
+def bytes_of_step(word):
+    """The payload of a step of a schedule; - is none."""
+    return b"" if word == "-" else bytes.fromhex(word)
+
+
 def step_of(members, sent, words):
     """A step of a schedule by the library's members; what it leaves to be sent joins what was sent."""
     member = members[int(words[1]) % len(members)]
     if words[0] == "cast":
-        sent.extend(made(member.cast, payload_bytes(words[2])))
+        sent.extend(made(member.cast, bytes_of_step(words[2])))
     elif words[0] == "burst":
-        sent.extend(made(member.cast_burst, [payload_bytes(word) for word in words[2:]]))
+        sent.extend(made(member.cast_burst, [bytes_of_step(word) for word in words[2:]]))
     elif words[0] == "tick":
         sent.extend(made(member.tick))
     elif words[0] == "arrive" and int(words[2]) < len(sent):

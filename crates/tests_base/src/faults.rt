@@ -1,9 +1,8 @@
-//! What is no frame, and what is wrong with it.
+//! Values that are no frame's, and how faults print.
 
 use crate::asserts::{holds_at, same, says};
 use crate::frames::{Parts, frame, many, ranges_of};
-use bytes::Bytes;
-use cb_frames::{Change, EncodeFault, FrameFault, LAST_NUMBER, Range, decode, encode};
+use cb_frames::{Change, EncodeFault, FrameFault, LAST_NUMBER, Range, encode};
 use std::alloc::Global;
 use std::process::Abort;
 use std::test::*;
@@ -23,90 +22,6 @@ fn a_33rd_range_has_no_text(rt: HostRuntime) {
     has_no_text(&rt, rt.alloc(), &request, EncodeFault::BadField);
     has_no_text(&rt, rt.alloc(), &help, EncodeFault::BadField);
     drop(ranges);
-}
-
-const FAULTS: &[(&[u8], FrameFault)] = &[
-    (b"\x11\x87\x00\x00\x01\x00\x02hi", FrameFault::NotMinimal),
-    (b"\x11\x07\x00\x01\x00\x02h", FrameFault::Short),
-    (b"\x11\x07\x00\x01\x00\x02hi\x00", FrameFault::Trailing),
-    (
-        b"\x11\x07\x01\x01\x01\x00\x00\x02yo",
-        FrameFault::ZeroDifference,
-    ),
-    (b"\x11\x07\x01\x01\x01\x01\x01\x02yo", FrameFault::OwnField),
-    (b"\x11\x07\x00\x01\x01\x00\x01\x02yo", FrameFault::OwnField),
-    (b"", FrameFault::Short),
-    (b"\x11\xff\xff\xff\xff\x1f", FrameFault::TooLarge),
-    (b"\x14", FrameFault::UnknownKind),
-    (b"\x11\x07\x40", FrameFault::BadIndex),
-    (b"\x11\x07\x00\x00", FrameFault::ZeroNumber),
-    (b"\x11\x07\x00\x00\x00\x02hi", FrameFault::ZeroNumber),
-    (b"\x11\x07\x00\x01\x00\x81\x08", FrameFault::PayloadTooLong),
-    // An index is above 63 by its distance from the one before.
-    (b"\x11\x07\x00\x01\x02\x3e\x01\x01", FrameFault::BadIndex),
-    // The number's own fault comes before its rule, and a field before the one behind it.
-    (b"\x11\x07\x80\x00", FrameFault::NotMinimal),
-    (b"\x11\x07\x40\x00", FrameFault::BadIndex),
-    (b"\x11\x07\x00\x01\xff\xff\xff\xff\x0f", FrameFault::Short),
-    (b"\x11", FrameFault::Short),
-    // A request has 1 to 32 ranges, which end at the last number.
-    (b"\x13\x07\x02\x00\x00", FrameFault::BadRange),
-    (b"\x13\x07\x02\x00\x21", FrameFault::BadRange),
-    (
-        b"\x13\x07\x02\x00\x01\xff\xff\xff\xff\x0f",
-        FrameFault::BadRange,
-    ),
-    (
-        b"\x13\x07\x02\x00\x01\x00\xff\xff\xff\xff\x0f",
-        FrameFault::BadRange,
-    ),
-    // Behind a range that ends at the last number or one before it no other can begin.
-    (
-        b"\x13\x07\x02\x00\x02\x00\xfe\xff\xff\xff\x0f\x00",
-        FrameFault::BadRange,
-    ),
-    (
-        b"\x13\x07\x02\x00\x02\x00\xfd\xff\xff\xff\x0f\x00",
-        FrameFault::BadRange,
-    ),
-    (b"\x13\x07\x40", FrameFault::BadIndex),
-    (b"\x13\x07\x02\x40", FrameFault::BadIndex),
-    (b"\x13\x07\x02\x00\x01\x01", FrameFault::Short),
-    (b"\x13\x07\x02\x00\x01\x01\x01\x00", FrameFault::Trailing),
-    // So has a help frame, which names three members.
-    (b"\x23\x07\x40", FrameFault::BadIndex),
-    (b"\x23\x07\x02\x40", FrameFault::BadIndex),
-    (b"\x23\x07\x02\x01\x40", FrameFault::BadIndex),
-    (b"\x23\x07\x02\x01\x00\x00", FrameFault::BadRange),
-    (b"\x23\x07\x02\x01\x00\x21", FrameFault::BadRange),
-    (
-        b"\x23\x07\x02\x01\x00\x01\xff\xff\xff\xff\x0f",
-        FrameFault::BadRange,
-    ),
-    (
-        b"\x23\x07\x02\x01\x00\x01\x00\xff\xff\xff\xff\x0f",
-        FrameFault::BadRange,
-    ),
-    (b"\x12\x07\x40", FrameFault::BadIndex),
-    (b"\x12\x07\x02\x01\x40", FrameFault::BadIndex),
-    (b"\x12\x07\x02\x02\x3f\x01\x00", FrameFault::BadIndex),
-    (b"\x12\x07\x02\x01\x00\x00", FrameFault::ZeroDifference),
-    (b"\x12\x07\x02\x00\x00", FrameFault::Trailing),
-    (b"\x12\x07\x02", FrameFault::Short),
-];
-
-#[test]
-fn bytes_that_are_no_frame_have_their_first_fault(rt: HostRuntime) {
-    for (bytes, fault) in FAULTS {
-        has_fault(&rt, rt.alloc(), bytes, *fault);
-    }
-}
-
-pub fn has_fault(rt: &impl Abort, alloc: Global, text: &[u8], fault: FrameFault) {
-    let bytes = Bytes::copy_from_slice(alloc, text).expect(rt, "memory");
-    let found = decode(alloc, &bytes).err();
-    drop(bytes);
-    same(rt, (text, found), (text, Some(fault)));
 }
 
 fn has_no_text(rt: &impl Abort, alloc: Global, parts: &Parts<'_>, fault: EncodeFault) {

@@ -3,8 +3,8 @@
 use crate::asserts::{holds_at, same};
 use bytes::Bytes;
 use cb_frames::{
-    Cast, Change, EncodeFault, Frame, FrameBlock, FrameFault, Help, LAST_NUMBER, Range, Request,
-    Status, decode, encode,
+    Cast, Change, EncodeFault, Frame, FrameBlock, FrameFault, Help, Range, Request, Status, decode,
+    encode,
 };
 use std::alloc::Global;
 use std::process::Abort;
@@ -96,97 +96,6 @@ fn cast(
     }
 }
 
-/// The frame is written so, and read again from there.
-fn is_text(rt: &impl Abort, alloc: Global, parts: &Parts<'_>, text: &[u8]) {
-    let frame = frame(rt, alloc, parts);
-    let bytes = encode(alloc, &frame).expect(rt, "a text");
-    same(rt, bytes.as_slice(), text);
-    let is_read = is_read_as(rt, alloc, &bytes, &frame);
-    drop(bytes);
-    drop(frame);
-    holds_at(rt, is_read, parts);
-}
-
-fn is_read_as(rt: &impl Abort, alloc: Global, bytes: &Bytes, frame: &Frame) -> bool {
-    let found = decode(alloc, bytes).expect(rt, "a frame");
-    let is_same = found == *frame;
-    drop(found);
-    is_same
-}
-
-fn are_texts(rt: &impl Abort, alloc: Global, rows: &[(Parts<'_>, &[u8])]) {
-    for (parts, text) in rows {
-        is_text(rt, alloc, parts, text);
-    }
-}
-
-const CASTS: &[(Parts<'static>, &[u8])] = &[
-    (
-        Parts::Cast {
-            name: [7, 0, 1],
-            changes: &[],
-            payload: b"hi",
-        },
-        b"\x11\x07\x00\x01\x00\x02hi",
-    ),
-    (
-        Parts::Cast {
-            name: [7, 1, 1],
-            changes: &[Change {
-                field: 0,
-                amount: 1,
-            }],
-            payload: b"yo",
-        },
-        b"\x11\x07\x01\x01\x01\x00\x01\x02yo",
-    ),
-    (
-        Parts::Cast {
-            name: [7, 1, 2],
-            changes: &[],
-            payload: b"ok",
-        },
-        b"\x11\x07\x01\x02\x00\x02ok",
-    ),
-    (
-        Parts::Cast {
-            name: [300, 2, 1],
-            changes: &[
-                Change {
-                    field: 0,
-                    amount: 3,
-                },
-                Change {
-                    field: 1,
-                    amount: 1,
-                },
-                Change {
-                    field: 4,
-                    amount: 2,
-                },
-            ],
-            payload: b"",
-        },
-        b"\x11\xac\x02\x02\x01\x03\x00\x03\x00\x01\x02\x02\x00",
-    ),
-    (
-        Parts::Cast {
-            name: [300, 2, 2],
-            changes: &[Change {
-                field: 0,
-                amount: 200,
-            }],
-            payload: b"",
-        },
-        b"\x11\xac\x02\x02\x02\x01\x00\xc8\x01\x00",
-    ),
-];
-
-#[test]
-fn small_casts_are_written_and_read(rt: HostRuntime) {
-    are_texts(&rt, rt.alloc(), CASTS);
-}
-
 /// The cast's own payload is not looked at.
 fn is_written(rt: &impl Abort, block: &mut FrameBlock, cast: &Cast, payload: &[u8], text: &[u8]) {
     let bytes = block.encode_cast(cast, payload).expect(rt, "a text");
@@ -257,183 +166,14 @@ fn numbered(rt: &impl Abort, alloc: Global, block: &mut FrameBlock, number: u8) 
     frame.expect(rt, "a text")
 }
 
-/// A change of this amount in each field below 63.
-pub fn changes_of(rt: &impl Abort, alloc: Global, amount: u32) -> Vec<Change> {
-    let mut changes = Vec::new(alloc);
-    for field in 0..63 {
-        changes.push(Change { field, amount }).expect(rt, "memory");
-    }
-    changes
-}
-
-/// The beginning, so many times the middle, and the end.
-fn text_of(rt: &impl Abort, alloc: Global, parts: [&[u8]; 3], count: u32) -> Vec<u8> {
-    let [begin, middle, end] = parts;
-    let mut text = begin.to_vec(alloc).expect(rt, "memory");
-    for _ in 0..count {
-        text.extend_from_slice(middle).expect(rt, "memory");
-    }
-    text.extend_from_slice(end).expect(rt, "memory");
-    text
-}
-
-/// This is the text, of so many bytes.
-fn is_long_text(rt: &impl Abort, alloc: Global, parts: &Parts<'_>, text: &[u8], length: usize) {
-    same(rt, text.len(), length);
-    is_text(rt, alloc, parts, text);
-}
-
-#[test]
-fn a_cast_after_one_of_each_other_has_132_bytes(rt: HostRuntime) {
-    let changes = changes_of(&rt, rt.alloc(), 1);
-    let parts = [b"\x11\x07\x3f\x01\x3f".as_slice(), b"\x00\x01", b"\x00"];
-    let text = text_of(&rt, rt.alloc(), parts, 63);
-    let parts = Parts::Cast {
-        name: [7, 63, 1],
-        changes: &changes,
-        payload: b"",
-    };
-    is_long_text(&rt, rt.alloc(), &parts, &text, 132);
-    drop(text);
-    drop(changes);
-}
-
-#[test]
-fn the_longest_cast_has_1417_bytes(rt: HostRuntime) {
-    const MAX: u32 = 4_294_967_295;
-    let changes = changes_of(&rt, rt.alloc(), MAX);
-    let payload = many(&rt, rt.alloc(), 0x61, 1_024);
-    let text = longest_text(&rt, rt.alloc(), &payload);
-    let parts = Parts::Cast {
-        name: [MAX, 63, MAX],
-        changes: &changes,
-        payload: &payload,
-    };
-    is_long_text(&rt, rt.alloc(), &parts, &text, 1_417);
-    drop(text);
-    drop(payload);
-    drop(changes);
-}
-
-pub fn longest_text(rt: &impl Abort, alloc: Global, payload: &[u8]) -> Vec<u8> {
-    let begin = b"\x11\xff\xff\xff\xff\x0f\x3f\xff\xff\xff\xff\x0f\x3f".as_slice();
-    let middle = b"\x00\xff\xff\xff\xff\x0f";
-    let mut text = text_of(rt, alloc, [begin, middle, b"\x80\x08"], 63);
-    text.extend_from_slice(payload).expect(rt, "memory");
-    text
-}
-
-const STATUSES: &[(Parts<'static>, &[u8])] = &[
-    (
-        Parts::Status {
-            group: 300,
-            sender: 2,
-            values: &[
-                Change {
-                    field: 0,
-                    amount: 203,
-                },
-                Change {
-                    field: 1,
-                    amount: 1,
-                },
-                Change {
-                    field: 2,
-                    amount: 2,
-                },
-                Change {
-                    field: 4,
-                    amount: 2,
-                },
-            ],
-        },
-        b"\x12\xac\x02\x02\x04\x00\xcb\x01\x00\x01\x00\x02\x01\x02",
-    ),
-    (
-        Parts::Status {
-            group: 7,
-            sender: 2,
-            values: &[],
-        },
-        b"\x12\x07\x02\x00",
-    ),
-    (
-        Parts::Status {
-            group: 7,
-            sender: 2,
-            values: &[Change {
-                field: 0,
-                amount: 1,
-            }],
-        },
-        b"\x12\x07\x02\x01\x00\x01",
-    ),
+const HELPS: [&[u8]; 2] = [
+    b"\x23\x07\x02\x01\x00\x01\x00\x01",
+    b"\x23\x07\x00\x3f\x01\x02\x01\x01\x00\xfa\xff\xff\xff\x0f",
 ];
-
-#[test]
-fn a_status_says_each_field_that_is_not_zero(rt: HostRuntime) {
-    are_texts(&rt, rt.alloc(), STATUSES);
-}
-
-const REQUESTS: &[(Parts<'static>, &[u8])] = &[
-    (
-        Parts::Request {
-            requester: 2,
-            asked: 0,
-            ranges: &[
-                Range { first: 2, last: 3 },
-                Range { first: 5, last: 5 },
-                Range { first: 9, last: 12 },
-            ],
-        },
-        b"\x13\x07\x02\x00\x03\x01\x01\x00\x00\x02\x03",
-    ),
-    (
-        Parts::Request {
-            requester: 2,
-            asked: 0,
-            ranges: &[Range { first: 2, last: 3 }],
-        },
-        b"\x13\x07\x02\x00\x01\x01\x01",
-    ),
-];
-
-#[test]
-fn a_request_says_its_ranges_by_their_distances(rt: HostRuntime) {
-    are_texts(&rt, rt.alloc(), REQUESTS);
-}
-
-const HELPS: &[(Parts<'static>, &[u8])] = &[
-    (
-        Parts::Help {
-            members: [2, 1, 0],
-            ranges: &[Range { first: 1, last: 2 }],
-        },
-        b"\x23\x07\x02\x01\x00\x01\x00\x01",
-    ),
-    (
-        Parts::Help {
-            members: [0, 63, 1],
-            ranges: &[
-                Range { first: 2, last: 3 },
-                Range {
-                    first: 5,
-                    last: LAST_NUMBER,
-                },
-            ],
-        },
-        b"\x23\x07\x00\x3f\x01\x02\x01\x01\x00\xfa\xff\xff\xff\x0f",
-    ),
-];
-
-#[test]
-fn a_help_frame_says_who_misses_who_is_asked_and_whose_casts(rt: HostRuntime) {
-    are_texts(&rt, rt.alloc(), HELPS);
-}
 
 #[test]
 fn a_part_of_a_help_frame_is_short_and_a_byte_more_is_trailing(rt: HostRuntime) {
-    for (_, text) in HELPS {
+    for text in HELPS {
         is_whole_only(&rt, rt.alloc(), text);
     }
 }
@@ -480,26 +220,6 @@ fn is_written_as(rt: &impl Abort, alloc: Global, frame: &Frame, text: &[u8]) {
     holds_at(rt, is_same, &text);
 }
 
-const UP_TO_THE_LAST: &[(Parts<'static>, &[u8])] = &[(
-    Parts::Request {
-        requester: 0,
-        asked: 1,
-        ranges: &[
-            Range { first: 1, last: 1 },
-            Range {
-                first: 3,
-                last: LAST_NUMBER,
-            },
-        ],
-    },
-    b"\x13\x07\x00\x01\x02\x00\x00\x00\xfc\xff\xff\xff\x0f",
-)];
-
-#[test]
-fn a_request_may_ask_up_to_the_last_number(rt: HostRuntime) {
-    are_texts(&rt, rt.alloc(), UP_TO_THE_LAST);
-}
-
 /// Ranges of one number each, with one number between two.
 pub fn ranges_of(rt: &impl Abort, alloc: Global, count: u32) -> Vec<Range> {
     let mut ranges = Vec::new(alloc);
@@ -511,35 +231,6 @@ pub fn ranges_of(rt: &impl Abort, alloc: Global, count: u32) -> Vec<Range> {
         ranges.push(range).expect(rt, "memory");
     }
     ranges
-}
-
-#[test]
-fn a_request_has_at_most_32_ranges(rt: HostRuntime) {
-    let ranges = ranges_of(&rt, rt.alloc(), 32);
-    let parts = [b"\x13\x07\x02\x00\x20".as_slice(), b"\x00\x00", b""];
-    let text = text_of(&rt, rt.alloc(), parts, 32);
-    let parts = Parts::Request {
-        requester: 2,
-        asked: 0,
-        ranges: &ranges,
-    };
-    is_text(&rt, rt.alloc(), &parts, &text);
-    drop(text);
-    drop(ranges);
-}
-
-#[test]
-fn a_help_frame_has_at_most_32_ranges(rt: HostRuntime) {
-    let ranges = ranges_of(&rt, rt.alloc(), 32);
-    let parts = [b"\x23\x07\x02\x01\x00\x20".as_slice(), b"\x00\x00", b""];
-    let text = text_of(&rt, rt.alloc(), parts, 32);
-    let parts = Parts::Help {
-        members: [2, 1, 0],
-        ranges: &ranges,
-    };
-    is_text(&rt, rt.alloc(), &parts, &text);
-    drop(text);
-    drop(ranges);
 }
 
 #[test]

@@ -4,15 +4,17 @@
 //! Each run is a member of a group of its own, so many times, among some other members whose frames get lost, are copied and come in
 //! another order, with forged and damaged ones between them. `checks/agreement.sh` runs the same with more and longer runs.
 
+mod calls;
 mod dice;
 mod forging;
+mod kinds;
 mod world;
 
+use crate::agreement::calls::{Call, Made, answer, arrival_text, counted, group_of};
 use crate::agreement::dice::Dice;
 use crate::agreement::forging::{Target, damaged, forged};
+use crate::agreement::kinds::{Noting, core_of};
 use crate::agreement::world::World;
-use crate::examples::calls::{Call, Made, answer, arrival_text, counted, group_of};
-use crate::examples::cores::{self, Noting, core_of};
 use bytes::Bytes;
 use cb_history::{ArriveRefusal, Entry, Event, Group, GroupMember, History, Message};
 use cb_member::{CoreMember, Member, Received};
@@ -82,7 +84,7 @@ impl Cores {
     }
 
     fn silent_answer(&mut self, alloc: Global, call: Call<'_>) -> Result<String, Fail> {
-        let text = cores::answer(alloc, &mut self.silent, call)?;
+        let text = kinds::answer(alloc, &mut self.silent, call)?;
         match call {
             Call::Cast(_) | Call::Burst(_) | Call::Take(_) | Call::Tick => self
                 .noting
@@ -199,7 +201,7 @@ fn says(rt: &impl Abort, said: Result<String, Fail>, expected: String) -> Result
     Ok(expected)
 }
 
-pub fn are_same_events(plain: &[Event], quick: &[Event]) -> bool {
+fn are_same_events(plain: &[Event], quick: &[Event]) -> bool {
     plain.len() == quick.len() && plain.iter().zip(quick).all(is_same)
 }
 
@@ -214,7 +216,7 @@ fn is_same(events: (&Event, &Event)) -> bool {
 }
 
 /// The messages have the same name, time and payload.
-pub fn is_same_message(one: &Message, other: &Message) -> bool {
+fn is_same_message(one: &Message, other: &Message) -> bool {
     one.name == other.name
         && one.time.as_slice() == other.time.as_slice()
         && one.payload == other.payload

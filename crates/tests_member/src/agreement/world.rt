@@ -1,7 +1,7 @@
 //! A group around the member under test: some other members of it, and all frames that were sent.
 
+use crate::agreement::calls::Made;
 use crate::agreement::dice::Dice;
-use crate::examples::calls::Made;
 use bytes::Bytes;
 use cb_history::{Arrival, Group, Outgoing};
 use cb_member::Member;

@@ -1,8 +1,7 @@
 //! Calls of a member, whichever it is, and what they did as texts.
 
-use crate::examples::cores;
 use bytes::Bytes;
-use cb_frames::{Change, Frame, Range, decode};
+use cb_frames::Range;
 use cb_history::{
     Arrival, ArriveRefusal, BurstDone, BurstRefusal, CastDone, CastRefusal, Entry, Event, Group,
     GroupMember, HelpFault, Message, MissingFault, Name, Outgoing, TickRefusal, Ticked,
@@ -10,10 +9,9 @@ use cb_history::{
 use cb_member::Member;
 use cb_reference::ReferenceMember;
 use std::alloc::Global;
-use std::process::Abort;
 use std::test::Fail;
 
-/// A member that the examples can make.
+/// A member that the runs can make.
 pub trait Made: GroupMember + Drop {
     /// A member without entries.
     fn made(alloc: Global, group: Group, me: u32, limit: usize) -> Result<Self, Fail>;
@@ -53,18 +51,6 @@ pub enum Call<'a> {
     Stable,
     StableOf(u32),
     Missing(u32),
-    /// The time of a received message, delivered or not, as its sender's casts in the history add up.
-    TimeOf(Name),
-}
-
-/// Calls of one member, from its first one on, each with its answer.
-pub struct Script<'a> {
-    pub number: u32,
-    pub size: u32,
-    pub window: u32,
-    pub me: u32,
-    pub limit: usize,
-    pub calls: &'a [(Call<'a>, &'a str)],
 }
 
 pub fn group_of(number: u32, size: u32, window: u32) -> Result<Group, Fail> {
@@ -239,7 +225,6 @@ fn reading<M: Made>(alloc: Global, member: &M, call: Call<'_>) -> Result<String,
         Call::StableOf(i) => count_text(alloc, member.stable_of(i)?),
         Call::Missing(i) => missing_text(alloc, member, i),
         Call::Help(i) => help_text(alloc, &member.help(i)),
-        Call::TimeOf(name) => time_of_text(alloc, member, name),
         _ => Err(Fail::new("a call that changes something")),
     }
 }
@@ -270,41 +255,6 @@ pub fn count_text(alloc: Global, count: Option<u32>) -> Result<String, Fail> {
 
 fn missing_text<M: Made>(alloc: Global, member: &M, i: u32) -> Result<String, Fail> {
     missing(alloc, &member.missing(i))
-}
-
-fn time_of_text<M: Made>(alloc: Global, member: &M, name: Name) -> Result<String, Fail> {
-    time_of(alloc, &member.entries()?, name)
-}
-
-/// Each call has the answer that stands beside it.
-pub fn play<M: Made, R: Abort>(
-    rt: &R,
-    alloc: Global,
-    member: &mut M,
-    calls: &[(Call<'_>, &str)],
-) -> Result<(), Fail> {
-    for (call, expected) in calls {
-        let text = answer(alloc, member, *call)?;
-        assert_eq!(rt; text.as_str(), *expected);
-    }
-    Ok(())
-}
-
-/// Plays each script with a member of its own.
-pub fn run<M: Made, R: Abort>(rt: &R, alloc: Global, scripts: &[Script<'_>]) -> Result<(), Fail> {
-    for script in scripts {
-        let group = group_of(script.number, script.size, script.window)?;
-        let mut member = M::made(alloc, group, script.me, script.limit)?;
-        play(rt, alloc, &mut member, script.calls)?;
-    }
-    Ok(())
-}
-
-/// Runs the scripts on the reference member, on the fast one, and on one that keeps no history.
-pub fn run_each<R: Abort>(rt: &R, alloc: Global, scripts: &[Script<'_>]) -> Result<(), Fail> {
-    run::<ReferenceMember, R>(rt, alloc, scripts)?;
-    run::<Member, R>(rt, alloc, scripts)?;
-    cores::run(rt, alloc, scripts)
 }
 
 /// The names of the messages that were delivered then.
@@ -373,47 +323,4 @@ fn event_text(alloc: Global, event: &Event) -> Result<String, Fail> {
         Event::Deliver(message) => ("deliver", message),
     };
     Ok(format!(in alloc; "{kind} {name} {time};")?)
-}
-
-pub fn time_of(alloc: Global, entries: &[Entry], name: Name) -> Result<String, Fail> {
-    let first = field_of(alloc, entries, name, 0);
-    let second = field_of(alloc, entries, name, 1);
-    let third = field_of(alloc, entries, name, 2);
-    Ok(format!(in alloc; "[{first},{second},{third}]")?)
-}
-
-/// A field of a message's time: its number, or all by which its sender's casts up to it have raised the field.
-fn field_of(alloc: Global, entries: &[Entry], name: Name, field: u32) -> u32 {
-    if field == name.sender {
-        return name.number;
-    }
-    let mut sum: u32 = 0;
-    for entry in entries {
-        sum = sum.saturating_add(raised_by(alloc, entry, name, field));
-    }
-    sum
-}
-
-fn raised_by(alloc: Global, entry: &Entry, name: Name, field: u32) -> u32 {
-    let frame = match entry {
-        Entry::Cast { frame } | Entry::Arrive { frame, .. } => frame,
-        Entry::Tick { status } => status,
-    };
-    match decode(alloc, frame) {
-        Ok(Frame::Cast(cast)) if cast.sender == name.sender && cast.number <= name.number => {
-            amount_in(&cast.changes, field)
-        }
-        Ok(Frame::Burst(burst)) if burst.sender == name.sender && burst.first <= name.number => {
-            amount_in(&burst.changes, field)
-        }
-        _ => 0,
-    }
-}
-
-/// A cast names each field once at most.
-fn amount_in(changes: &[Change], field: u32) -> u32 {
-    match changes.iter().find(|change| change.field == field) {
-        Some(change) => change.amount,
-        None => 0,
-    }
 }

@@ -1,8 +1,8 @@
 //! Calls of a member that keeps no history, whose texts are those of a member whose history has room.
 
-use crate::examples::calls::{
-    Call, Script, arrival_text, burst_text, cast_text, count_text, entries, events, group_of,
-    help_text, missing, tick_text, time_of,
+use crate::agreement::calls::{
+    Call, arrival_text, burst_text, cast_text, count_text, entries, events, help_text, missing,
+    tick_text,
 };
 use bytes::Bytes;
 use cb_history::{
@@ -11,11 +11,7 @@ use cb_history::{
 };
 use cb_member::{CoreMember, Received};
 use std::alloc::Global;
-use std::process::Abort;
 use std::test::Fail;
-
-/// A script with a smaller limit has a history that gets full.
-const ROOM: usize = 100;
 
 pub fn core_of(alloc: Global, group: Group, me: u32) -> Result<CoreMember, Fail> {
     let made = CoreMember::new(alloc, group, me);
@@ -51,7 +47,7 @@ fn taken_text(alloc: Global, core: &mut CoreMember, bytes: &[u8]) -> Result<Stri
 }
 
 /// The answer, with all that was delivered.
-pub fn arrival_of(alloc: Global, received: Received, events: Vec<Event>) -> Result<Arrival, Fail> {
+fn arrival_of(alloc: Global, received: Received, events: Vec<Event>) -> Result<Arrival, Fail> {
     let mut deliveries = Vec::new(alloc);
     for event in events {
         if let Event::Deliver(message) = event {
@@ -98,7 +94,6 @@ impl Noting {
             }
             Call::Entries => entries(alloc, &self.entries),
             Call::Events => events(alloc, &self.events),
-            Call::TimeOf(name) => time_of(alloc, &self.entries, name),
             _ => reading(alloc, &self.core, call),
         }
     }
@@ -237,30 +232,4 @@ fn told_of_burst(
         out,
     };
     Ok((Ok(told), Some(entry)))
-}
-
-/// Each call has the answer that stands beside it.
-fn play<R: Abort>(
-    rt: &R,
-    alloc: Global,
-    core: &mut Noting,
-    calls: &[(Call<'_>, &str)],
-) -> Result<(), Fail> {
-    for (call, expected) in calls {
-        let text = core.answer(alloc, *call)?;
-        assert_eq!(rt; text.as_str(), *expected);
-    }
-    Ok(())
-}
-
-/// Plays each script with a core of its own, but those in which a history gets full.
-pub fn run<R: Abort>(rt: &R, alloc: Global, scripts: &[Script<'_>]) -> Result<(), Fail> {
-    for script in scripts {
-        if script.limit >= ROOM {
-            let group = group_of(script.number, script.size, script.window)?;
-            let mut core = Noting::made(alloc, group, script.me)?;
-            play(rt, alloc, &mut core, script.calls)?;
-        }
-    }
-    Ok(())
 }

@@ -1,0 +1,2 @@
+-- What the suite writes.
+pub mod Texts
