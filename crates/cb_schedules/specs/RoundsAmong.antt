@@ -68,7 +68,8 @@ abbrev pub number_of : List ℕ → ℕ → List SentFrame → List ℕ
 number_of bytes number [] = []
 number_of bytes number (frame ∷ frames) = if bytes_eq bytes frame.bytes then number ∷ [] else number_of bytes (number + 1) frames
 
--- A helper hands on frames that were sent before, byte for byte: these arrive at the member.
+-- A helper hands on frames that were sent before, byte for byte: these arrive at the member. The help frames are no steps here, since they
+-- enter nothing in a history.
 abbrev pub takes_again : ℕ → List SentFrame → List Outgoing → Schedule
 takes_again j sent outs = flat_map (λ out. map (ArriveStep j) (number_of out.bytes 0 sent)) outs
 
