@@ -3,6 +3,8 @@ mod RoundRows
 mod ForgettingRows
 mod HelpRows
 mod HelpRoundRows
+mod RoundsAmongRows
+mod SilentRows
 pub mod RestartRows
 pub mod GoingOn
 pub mod Lists
@@ -40,6 +42,8 @@ pub mod Once
 pub mod HelpSteps
 pub mod Outliving
 pub mod HelpRoundLaws
+pub mod RoundsAmong
+pub mod RoundsAmongLaws
 pub mod Room
 pub mod Within
 pub mod Entered

@@ -1,4 +1,4 @@
--- Rounds without a silent member bring the ENDs to all who go on.
+-- Rounds without a silent member, and rounds among those whom a plan lists, bring the ENDs to all who go on.
 use Rattle.std.specs.Prelude.{slice_get, bytes_eq, nat_le, nat_lt, not}
 use Rattle.std.specs.List.{AllByRecursion, list_any, list_all, filter_map}
 use Rattle.std.proofs.Common.{◌≡◌, ◌≢◌, ℕ, ◌<◌, ◌≤◌, ◌&&◌, ◌||◌, Bool, true, false, eqb, Option, List, [], ◌∷◌, ◌++◌, map, Some, None, refl, sym, ◌∙◌, ap, subst, append-nil, append_assoc}
@@ -24,18 +24,19 @@ use Rattle.cb_history.proofs.Lists.{each_of, all_of, any_of}
 use Rattle.cb_schedules.specs.Schedule.{Setting, IsSetting, Step, CastStep, ArriveStep, TickStep, HelpStep, Schedule, GroupState, step_after, run_from, run}
 use Rattle.cb_schedules.specs.Messages.{facts_at, stamped_lists, causal_lists, HasDelivered}
 use Rattle.cb_schedules.specs.Rounds.{FindNoneFull}
-use Rattle.cb_schedules.specs.RoundLaws.{IsNoCastStep}
+use Rattle.cb_schedules.specs.RoundLaws.{IsNoCastStep, rounds_to_deliver}
 use Rattle.cb_schedules.specs.HelpRounds.{help_rounds}
 use Rattle.cb_schedules.specs.HelpRoundLaws.{rounds_without}
 use Rattle.cb_schedules.specs.Consistent.{IsConsistent}
 use Rattle.cb_schedules.specs.Succession.{Plan, EndableGroup, IsEndable, is_listed, own_plans, is_end_by, Begin, has_begun, is_passed, may_talk, may_end, may_begin, the_rules, SuccessionStep, Happens, Ends, Begins, SuccessionState, and_happens, and_ends, and_begins, succession_step, succession_from, nobody_yet, succession}
-use Rattle.cb_schedules.specs.SuccessionRounds.{rounds_of, behind_rounds, MayBeginNow, GoesOnBy, ADeadMemberIsNotNeeded, ComesLate, WhoComesLateMayBegin, NothingElseIsWaitedFor}
+use Rattle.cb_schedules.specs.SuccessionRounds.{rounds_of, behind_rounds, MayBeginNow, GoesOnBy, ADeadMemberIsNotNeeded, ComesLate, WhoComesLateMayBegin, NothingElseIsWaitedFor, rounds_of_listed, WaitsFor, SilentMembersAreNotNeeded}
 use Rattle.cb_schedules.proofs.Courses.{step_goes_on, consistent_from}
 use Rattle.cb_schedules.proofs.EndLists.{casts_of_both, plans_of_casts, both_hold, text_same}
 use Rattle.cb_schedules.proofs.GoingOn.{runs_join}
 use Rattle.cb_schedules.proofs.Headlines.{member_has, headline_holds}
 use Rattle.cb_schedules.proofs.HelpRoundLaws.{others_have_what_any_had}
 use Rattle.cb_schedules.proofs.HelpSteps.{help_rounds_cast_nothing}
+use Rattle.cb_schedules.proofs.RoundsAmongLaws.{rounds_cast_nothing, they_have_what_any_had}
 use Rattle.cb_schedules.proofs.Later.{MoreFacts, own_casts-append, step_is_later}
 use Rattle.cb_schedules.proofs.Lists.{in_by_index}
 use Rattle.cb_schedules.proofs.SuccessionLaws.{had_end, stands_now, asks, cast_from_erased}
@@ -166,46 +167,36 @@ nothing_else_is_waited_for g steps text plan k endable read waits listed last ar
         subst (λ (n : ℕ). list_any (is_end_by text n) (stamped_lists g.setting (succession the_rules g steps).group k) ≡ true) own
         (end_is_there g.setting (succession the_rules g steps).group so.consistent k l end.index (Cast x) text at says had)
 
--- ---- behind the rounds
+-- ---- behind rounds in which nobody casts
 
-module _ (g : EndableGroup) (endable : IsEndable g) (steps : List SuccessionStep) (silent : ℕ) (lt : silent < g.setting.group.size)
-    (not_full : FindNoneFull g.setting (succession the_rules g steps).group (rounds_of g silent (succession the_rules g steps))) where
+-- where those who live have all that one of them had
+module _ (g : EndableGroup) (endable : IsEndable g) (steps : List SuccessionStep) (rounds : Schedule) (no_casts : AllByRecursion IsNoCastStep rounds) (Lives : ℕ → Type 0)
+    (all_have : (j k : ℕ) (m : Name) → j < g.setting.group.size → k < g.setting.group.size → Lives j → Lives k
+    → HasDelivered g.setting (succession the_rules g steps).group k m → HasDelivered g.setting (run_from g.setting (succession the_rules g steps).group rounds) j m) where
   abbrev before : SuccessionState
   before = succession the_rules g steps
 
   abbrev behind : GroupState
-  behind = run_from g.setting before.group (rounds_of g silent before)
+  behind = run_from g.setting before.group rounds
 
   so : SuccessionSo g (succession the_rules g steps)
   so = successions_are_so g endable steps
 
-  no_casts : AllByRecursion IsNoCastStep (rounds_of g silent (succession the_rules g steps))
-  no_casts = help_rounds_cast_nothing g.setting silent (rounds_without g.setting) (succession the_rules g steps).group
-
-  behind_is : behind_rounds g silent steps ≡ record { group = behind; begun = before.begun }
-  behind_is = succession_joins g nobody_yet steps (map Happens (rounds_of g silent before)) ∙ quiet_steps_happen g before (rounds_of g silent before) no_casts
+  behind_is : succession the_rules g (steps ++ map Happens rounds) ≡ record { group = behind; begun = before.begun }
+  behind_is = succession_joins g nobody_yet steps (map Happens rounds) ∙ quiet_steps_happen g before rounds no_casts
 
   behind_so : IsConsistent g.setting behind
-  behind_so = consistent_from g.setting endable.is_setting before.group so.consistent (rounds_of g silent before)
-
-  -- what any of the others had, all others have
-  all_have : (j k : ℕ) (m : Name) → j < g.setting.group.size → k < g.setting.group.size → j ≢ silent → k ≢ silent → HasDelivered g.setting before.group k m → HasDelivered g.setting behind j m
-  all_have =
-      let (all, is) = group_is_run g steps in
-      subst (λ (s : GroupState). FindNoneFull g.setting s (help_rounds g.setting silent (rounds_without g.setting) s)
-      → (j k : ℕ) (m : Name) → j < g.setting.group.size → k < g.setting.group.size → j ≢ silent → k ≢ silent
-      → HasDelivered g.setting s k m → HasDelivered g.setting (run_from g.setting s (help_rounds g.setting silent (rounds_without g.setting) s)) j m)
-      (sym is) (λ none. others_have_what_any_had g.setting silent all endable.is_setting lt none) not_full
+  behind_so = consistent_from g.setting endable.is_setting before.group so.consistent rounds
 
   -- so an END that one of them had, each of them has
-  end_comes : (j k a : ℕ) (e : Event) (text : List ℕ) → j < g.setting.group.size → k < g.setting.group.size → j ≢ silent → k ≢ silent
+  end_comes : (j k a : ℕ) (e : Event) (text : List ℕ) → j < g.setting.group.size → k < g.setting.group.size → Lives j → Lives k
       → slice_get (stamped_lists g.setting before.group k) a ≡ Some e → (message_of e).payload ≡ text
       → list_any (is_end_by text (message_of e).name.sender) (stamped_lists g.setting behind j) ≡ true
   end_comes j k a e text lt_j lt_k live_j live_k at is_text =
       let has : HasDelivered g.setting before.group k (message_of e).name =
       record { index = a; event = without_time e; stands = get_map without_time (stamped_lists g.setting before.group k) a e at; named = name_stays e } in
       let had : HasDelivered g.setting behind j (message_of e).name = all_have j k (message_of e).name lt_j lt_k live_j live_k has in
-      let (more, goes_on, none) = quiet_events g.setting endable.is_setting before.group so.consistent (rounds_of g silent before) no_casts k in
+      let (more, goes_on, none) = quiet_events g.setting endable.is_setting before.group so.consistent rounds no_casts k in
       let at_behind : slice_get (stamped_lists g.setting behind k) a ≡ Some e =
       ap (λ (es : List Event). slice_get es a) goes_on ∙ get_left (stamped_lists g.setting before.group k) more a (slice_get_within (stamped_lists g.setting before.group k) a e at) ∙ at in
       end_is_there g.setting behind behind_so j k a e text at_behind is_text had
@@ -213,7 +204,7 @@ module _ (g : EndableGroup) (endable : IsEndable g) (steps : List SuccessionStep
   -- the own ENDs are those from before
   same_plans : (k : ℕ) → own_plans g.plan_in (stamped_lists g.setting behind k) ≡ own_plans g.plan_in (stamped_lists g.setting before.group k)
   same_plans k =
-      let (more, goes_on, none) = quiet_events g.setting endable.is_setting before.group so.consistent (rounds_of g silent before) no_casts k in
+      let (more, goes_on, none) = quiet_events g.setting endable.is_setting before.group so.consistent rounds no_casts k in
       plans_of_casts g.plan_in (stamped_lists g.setting behind k)
       ∙ ap (filter_map (λ (c : Carried). g.plan_in c.payload))
       (ap casts_among goes_on ∙ casts_of_both (stamped_lists g.setting before.group k) more ∙ ap (λ (cs : List Carried). casts_among (stamped_lists g.setting before.group k) ++ cs) none
@@ -224,7 +215,7 @@ module _ (g : EndableGroup) (endable : IsEndable g) (steps : List SuccessionStep
   may_now : (k : ℕ) (text : List ℕ) (plan : Plan) → has_begun before.begun k ≡ false → is_listed k plan ≡ true
       → ((l : ℕ) → IsIn l plan.list → list_any (is_end_by text l) (stamped_lists g.setting behind k) ≡ true)
       → ((q : Plan) → IsIn q (own_plans g.plan_in (stamped_lists g.setting before.group k)) → (not (nat_lt plan.number q.number) || is_passed before.begun text plan q) ≡ true)
-      → MayBeginNow g (behind_rounds g silent steps) k text plan
+      → MayBeginNow g (succession the_rules g (steps ++ map Happens rounds)) k text plan
   may_now k text plan waits listed ended passed =
       subst (λ (t : SuccessionState). may_begin g t.begun (stamped_lists g.setting t.group k) k text plan ≡ true) (sym behind_is)
       (all_hold (has_begun before.begun k) (is_listed k plan) (list_all (λ l. list_any (is_end_by text l) (stamped_lists g.setting behind k)) plan.list)
@@ -234,32 +225,32 @@ module _ (g : EndableGroup) (endable : IsEndable g) (steps : List SuccessionStep
       ∙ all_of (λ q. not (nat_lt plan.number q.number) || is_passed before.begun text plan q) (own_plans g.plan_in (stamped_lists g.setting before.group k)) passed))
 
   -- each whom the plan lists has ended
-  module _ (text : List ℕ) (plan : Plan) (read : g.plan_in text ≡ Some plan) (each : (l : ℕ) → is_listed l plan ≡ true → GoesOnBy g (succession the_rules g steps) silent text plan l) where
+  module _ (text : List ℕ) (plan : Plan) (read : g.plan_in text ≡ Some plan) (each : (l : ℕ) → is_listed l plan ≡ true → WaitsFor g (succession the_rules g steps) text plan l × Lives l) where
     is_in_list : (l : ℕ) → IsIn l plan.list → is_listed l plan ≡ true
     is_in_list l there = any_of (λ n. eqb n l) plan.list l there (eq-eqb l l refl)
 
     ended_at : (k l : ℕ) → is_listed k plan ≡ true → IsIn l plan.list → list_any (is_end_by text l) (stamped_lists g.setting behind k) ≡ true
     ended_at k l listed there =
-        let here : GoesOnBy g before silent text plan k = each k listed in
-        let other : GoesOnBy g before silent text plan l = each l (is_in_list l there) in
+        let (here, here_lives) = each k listed in
+        let (other, other_lives) = each l (is_in_list l there) in
         let (x, at, named, says) = cast_from_erased g (stamped_lists g.setting before.group) before.begun so.succeeding l other.ended.index other.ended.name text other.ended.stands in
         let own : x.name.sender ≡ l =
         (run_regular g.setting.group.size (causal_lists g.setting before.group) (stamped_is_causal g.setting.group.size (stamped_lists g.setting before.group) so.succeeding.run)).sound.casters
         (record { member = l; index = other.ended.index }) x.name (record { payload = text; stands = other.ended.stands ∙ ap (λ (m : Name). Some (causal.Cast m text)) (sym named) }) in
         subst (λ (n : ℕ). list_any (is_end_by text n) (stamped_lists g.setting behind k) ≡ true) own
-        (end_comes k l other.ended.index (Cast x) text here.member other.member here.lives other.lives at says)
+        (end_comes k l other.ended.index (Cast x) text here.member other.member here_lives other_lives at says)
 
-    may_go_on : (k : ℕ) → is_listed k plan ≡ true → MayBeginNow g (behind_rounds g silent steps) k text plan
+    pub may_go_on : (k : ℕ) → is_listed k plan ≡ true → MayBeginNow g (succession the_rules g (steps ++ map Happens rounds)) k text plan
     may_go_on k listed =
-        may_now k text plan (each k listed).waits listed (λ l there. ended_at k l listed there)
-        (λ q there. no_later q (leb-true q.number plan.number (each_of (λ (p : Plan). nat_le p.number plan.number) (own_plans g.plan_in (stamped_lists g.setting before.group k)) q (each k listed).last there)))
+        may_now k text plan (each k listed).0.waits listed (λ l there. ended_at k l listed there)
+        (λ q there. no_later q (leb-true q.number plan.number (each_of (λ (p : Plan). nat_le p.number plan.number) (own_plans g.plan_in (stamped_lists g.setting before.group k)) q (each k listed).0.last there)))
       where
         no_later : (q : Plan) → q.number ≤ plan.number → (not (nat_lt plan.number q.number) || is_passed before.begun text plan q) ≡ true
         no_later q most = rw (le-ltb plan.number q.number most) refl
 
   -- somebody has begun
-  may_come : (b : Begin) (k : ℕ) → ComesLate g (succession the_rules g steps) silent b k → MayBeginNow g (behind_rounds g silent steps) k b.text b.plan
-  may_come b k late =
+  pub may_come : (silent : ℕ) (b : Begin) (k : ℕ) → ComesLate g (succession the_rules g steps) silent b k → Lives k → Lives b.member → MayBeginNow g (succession the_rules g (steps ++ map Happens rounds)) k b.text b.plan
+  may_come silent b k late lives beginner_lives =
       may_now k b.text b.plan late.waits late.listed ended passed
     where
       ended : (l : ℕ) → IsIn l b.plan.list → list_any (is_end_by b.text l) (stamped_lists g.setting behind k) ≡ true
@@ -276,7 +267,7 @@ module _ (g : EndableGroup) (endable : IsEndable g) (steps : List SuccessionStep
             named = name_stays e;
           }) in
           subst (λ (m : ℕ). list_any (is_end_by b.text m) (stamped_lists g.setting behind k) ≡ true) sender
-          (end_comes k b.member a e b.text late.member inside late.lives late.beginner_lives now text)
+          (end_comes k b.member a e b.text late.member inside lives beginner_lives now text)
 
       passed : (q : Plan) → IsIn q (own_plans g.plan_in (stamped_lists g.setting before.group k)) → (not (nat_lt b.plan.number q.number) || is_passed before.begun b.text b.plan q) ≡ true
       passed q there =
@@ -296,8 +287,44 @@ module _ (g : EndableGroup) (endable : IsEndable g) (steps : List SuccessionStep
           by_case true y heard either = refl
           by_case false y heard either = heard either
 
+-- ---- behind rounds without a silent member
+
+module _ (g : EndableGroup) (endable : IsEndable g) (steps : List SuccessionStep) (silent : ℕ) (lt : silent < g.setting.group.size)
+    (not_full : FindNoneFull g.setting (succession the_rules g steps).group (rounds_of g silent (succession the_rules g steps))) where
+  none_casts : AllByRecursion IsNoCastStep (rounds_of g silent (succession the_rules g steps))
+  none_casts = help_rounds_cast_nothing g.setting silent (rounds_without g.setting) (succession the_rules g steps).group
+
+  -- what any of the others had, all others have
+  others_have : (j k : ℕ) (m : Name) → j < g.setting.group.size → k < g.setting.group.size → j ≢ silent → k ≢ silent → HasDelivered g.setting (succession the_rules g steps).group k m
+      → HasDelivered g.setting (run_from g.setting (succession the_rules g steps).group (rounds_of g silent (succession the_rules g steps))) j m
+  others_have =
+      let (all, is) = group_is_run g steps in
+      subst (λ (s : GroupState). FindNoneFull g.setting s (help_rounds g.setting silent (rounds_without g.setting) s)
+      → (j k : ℕ) (m : Name) → j < g.setting.group.size → k < g.setting.group.size → j ≢ silent → k ≢ silent
+      → HasDelivered g.setting s k m → HasDelivered g.setting (run_from g.setting s (help_rounds g.setting silent (rounds_without g.setting) s)) j m)
+      (sym is) (λ none. others_have_what_any_had g.setting silent all endable.is_setting lt none) not_full
+
+  dead_is_not_needed : (text : List ℕ) (plan : Plan) (k : ℕ) → g.plan_in text ≡ Some plan → ((l : ℕ) → is_listed l plan ≡ true → GoesOnBy g (succession the_rules g steps) silent text plan l)
+      → is_listed k plan ≡ true → MayBeginNow g (behind_rounds g silent steps) k text plan
+  dead_is_not_needed text plan k read each listed =
+      may_go_on g endable steps (rounds_of g silent (succession the_rules g steps)) none_casts (λ j. j ≢ silent) others_have text plan read
+      (λ l there. let one = each l there in (record { member = one.member; ended = one.ended; last = one.last; waits = one.waits }, one.lives)) k listed
+
+  late_may_come : (b : Begin) (k : ℕ) → ComesLate g (succession the_rules g steps) silent b k → MayBeginNow g (behind_rounds g silent steps) k b.text b.plan
+  late_may_come b k late =
+      may_come g endable steps (rounds_of g silent (succession the_rules g steps)) none_casts (λ j. j ≢ silent) others_have silent b k late late.lives late.beginner_lives
+
 pub a_dead_member_is_not_needed : ADeadMemberIsNotNeeded
-a_dead_member_is_not_needed g steps silent text plan k endable lt read each not_full listed = may_go_on g endable steps silent lt not_full text plan read each k listed
+a_dead_member_is_not_needed g steps silent text plan k endable lt read each not_full listed = dead_is_not_needed g endable steps silent lt not_full text plan k read each listed
 
 pub who_comes_late_may_begin : WhoComesLateMayBegin
-who_comes_late_may_begin g steps silent b k endable lt late not_full = may_come g endable steps silent lt not_full b k late
+who_comes_late_may_begin g steps silent b k endable lt late not_full = late_may_come g endable steps silent lt not_full b k late
+
+-- ---- behind rounds among those whom the plan lists
+
+pub silent_members_are_not_needed : SilentMembersAreNotNeeded
+silent_members_are_not_needed g steps text plan k endable read each not_full listed =
+    may_go_on g endable steps (rounds_of_listed g plan (succession the_rules g steps)) (rounds_cast_nothing g.setting plan.list (rounds_to_deliver g.setting) (succession the_rules g steps).group)
+    (λ j. is_listed j plan ≡ true)
+    (they_have_what_any_had g.setting endable.is_setting plan.list (succession the_rules g steps).group (successions_are_so g endable steps).consistent not_full)
+    text plan read (λ l there. (each l there, there)) k listed

@@ -12,6 +12,7 @@ pub mod RoundLaws
 pub mod HelpLaws
 pub mod HelpRounds
 pub mod HelpRoundLaws
+pub mod RoundsAmong
 pub mod Forgetting
 pub mod ForgettingLaws
 pub mod ForgettingRounds

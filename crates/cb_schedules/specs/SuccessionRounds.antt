@@ -6,6 +6,8 @@ use Rattle.cb_schedules.specs.Messages.{stamped_lists, causal_lists, IsClosedArr
 use Rattle.cb_schedules.specs.Rounds.{FindNoneFull}
 use Rattle.cb_schedules.specs.HelpRounds.{help_rounds}
 use Rattle.cb_schedules.specs.HelpRoundLaws.{rounds_without}
+use Rattle.cb_schedules.specs.RoundLaws.{rounds_to_deliver}
+use Rattle.cb_schedules.specs.RoundsAmong.{rounds_among}
 use Rattle.cb_schedules.specs.Succession.{Plan, EndableGroup, IsEndable, is_listed, own_plans, Begin, has_begun, may_begin, the_rules, SuccessionStep, Happens, SuccessionState, succession}
 use Rattle.cb_schedules.specs.SuccessionLaws.{HasBegun, HasEnded}
 
@@ -67,3 +69,28 @@ NothingElseIsWaitedFor =
     → ((l : ℕ) → is_listed l plan ≡ true → (end : HasEnded (causal_lists g.setting (succession the_rules g steps).group) l text)
     × IsClosedArrival g.setting (succession the_rules g steps).group k end.name)
     → MayBeginNow g (succession the_rules g steps) k text plan
+
+-- the rounds among those whom a plan lists, as many as repair takes where nobody is silent
+abbrev pub rounds_of_listed : EndableGroup → Plan → SuccessionState → Schedule
+rounds_of_listed g plan t = rounds_among g.setting plan.list (rounds_to_deliver g.setting) t.group
+
+-- the state behind them; they are steps of a succession like any others
+abbrev pub behind_rounds_of_listed : EndableGroup → Plan → List SuccessionStep → SuccessionState
+behind_rounds_of_listed g plan steps =
+    succession the_rules g (steps ++ map Happens (rounds_of_listed g plan (succession the_rules g steps)))
+
+-- the member has cast the END with this text, no END of a greater number, and has not begun
+pub record WaitsFor (g : EndableGroup) (t : SuccessionState) (text : List ℕ) (plan : Plan) (k : ℕ) : Type 0 where
+  pub member : k < g.setting.group.size
+  pub ended : HasEnded (causal_lists g.setting t.group) k text
+  pub last : list_all (λ q. nat_le q.number plan.number) (own_plans g.plan_in (stamped_lists g.setting t.group k)) ≡ true
+  pub waits : has_begun t.begun k ≡ false
+
+-- If each member that a plan lists has ended by it, each of these may begin behind the rounds among them, whoever and however many others
+-- are silent.
+abbrev pub SilentMembersAreNotNeeded : Type 0
+SilentMembersAreNotNeeded =
+    (g : EndableGroup) (steps : List SuccessionStep) (text : List ℕ) (plan : Plan) (k : ℕ) → IsEndable g → g.plan_in text ≡ Some plan
+    → ((l : ℕ) → is_listed l plan ≡ true → WaitsFor g (succession the_rules g steps) text plan l)
+    → FindNoneFull g.setting (succession the_rules g steps).group (rounds_of_listed g plan (succession the_rules g steps))
+    → is_listed k plan ≡ true → MayBeginNow g (behind_rounds_of_listed g plan steps) k text plan

@@ -44,7 +44,7 @@ pub use rounds::{
 pub use runs::runs_go_on_step_by_step;
 pub use succession::{
     a_dead_member_is_not_needed_to_go_on, an_end_has_room, nobody_begins_beside_them,
-    nothing_else_is_waited_for, other_rules_are_wrong, successions_outlive_restarts,
-    the_old_group_is_not_needed, those_who_begin_have_the_same_cut, who_comes_late_comes_too,
-    who_is_left_out_stays_within_a_window,
+    nothing_else_is_waited_for, other_rules_are_wrong, silent_members_are_not_needed_to_go_on,
+    successions_outlive_restarts, the_old_group_is_not_needed, those_who_begin_have_the_same_cut,
+    who_comes_late_comes_too, who_is_left_out_stays_within_a_window,
 };

@@ -24,9 +24,10 @@ pub use laws::{
     rounds_are_steps_of_a_schedule, rounds_repair_behind_restarts, rounds_tell_and_bring,
     rounds_without_a_silent_member_are_steps_of_the_others, runs_are_consistent,
     runs_go_on_step_by_step, schedules_can_be_journaled, sending_first_is_wrong,
-    sent_frames_say_what_is_so, steps_extend_the_machines, successions_outlive_restarts,
-    the_old_group_is_not_needed, then_nothing_changes_any_more, those_who_begin_have_the_same_cut,
-    what_cores_know_is_so, what_has_arrived_everywhere_is_delivered, what_is_heard_of_is_cast,
+    sent_frames_say_what_is_so, silent_members_are_not_needed_to_go_on, steps_extend_the_machines,
+    successions_outlive_restarts, the_old_group_is_not_needed, then_nothing_changes_any_more,
+    those_who_begin_have_the_same_cut, what_cores_know_is_so,
+    what_has_arrived_everywhere_is_delivered, what_is_heard_of_is_cast,
     what_is_stable_is_delivered_everywhere, what_is_stable_of_any_sender_is_delivered_everywhere,
     who_comes_late_comes_too, who_is_left_out_stays_within_a_window,
 };

@@ -1,13 +1,15 @@
 //! Groups that follow one another: those who go on end the old group at one cut, and nobody begins the next one beside them.
 
 ghost use Rattle.cb_schedules.specs.LeftOut.{WhoHearsNothingMoreStaysWithin};
+ghost use Rattle.cb_schedules.specs.RoundsAmong.{GivenActAlone, RoundsAmongBringAll, RoundsAmongCastNothing};
 ghost use Rattle.cb_schedules.specs.SuccessionLaws.{CastsAreInTheCut, EachSuccession, EndsHaveRoom, ExactlyTheCutIsShown};
 ghost use Rattle.cb_schedules.specs.SuccessionLaws.{NobodyBeginsByALaterPlan, OneNumberHasOneText};
 ghost use Rattle.cb_schedules.specs.SuccessionLaws.{ShownListsGoOn, TheCutCanBeFollowed, TheCutIsCausal, TheCutIsDelivered};
 ghost use Rattle.cb_schedules.specs.SuccessionLaws.{TheCutIsOneVector, TheLastListGoesOneWay, TheSameIsShown};
 ghost use Rattle.cb_schedules.specs.SuccessionLaws.{WhatWasShownIsInTheCut, WhoIsListedHasEnded};
 ghost use Rattle.cb_schedules.specs.SuccessionRestarts.{EachJournaledSuccession, WhatWasShownOutlivesRestarts};
-ghost use Rattle.cb_schedules.specs.SuccessionRounds.{ADeadMemberIsNotNeeded, NothingElseIsWaitedFor, WhoComesLateMayBegin};
+ghost use Rattle.cb_schedules.specs.SuccessionRounds.{ADeadMemberIsNotNeeded, NothingElseIsWaitedFor};
+ghost use Rattle.cb_schedules.specs.SuccessionRounds.{SilentMembersAreNotNeeded, WhoComesLateMayBegin};
 ghost use Rattle.cb_schedules.specs.SuccessionTraps.{Breaks, NoReserveLeavesNoRoom, cut_is_now, ends_once};
 ghost use Rattle.cb_schedules.specs.SuccessionTraps.{no_compare, shows_all, takes_older};
 
@@ -58,6 +60,18 @@ pub fn an_end_has_room()
 /// member and W / 64 more, rounded up, whatever was lost before. In these rounds no history may be found full.
 pub fn a_dead_member_is_not_needed_to_go_on()
     ensures { ADeadMemberIsNotNeeded }
+{}
+
+/// Whoever and however many are silent: in rounds among some members each ticks, what they sent arrives at them, and each asks all of them
+/// that it knows to have the first message it lacks of a sender, and gets what they hand on. After one such round and W / 64 more, rounded
+/// up, each of them has delivered what any of them had delivered before. If all whom a plan lists have cast its END, and none of a greater
+/// number, each of them may begin after these rounds among them. In these rounds nobody else does or gets anything, and nobody casts; no
+/// history may be found full.
+pub fn silent_members_are_not_needed_to_go_on()
+    ensures alone { GivenActAlone }
+    ensures quiet { RoundsAmongCastNothing }
+    ensures had { RoundsAmongBringAll }
+    ensures begin { SilentMembersAreNotNeeded }
 {}
 
 /// However many are silent: a member that a plan lists, and that has ended by no later one, may begin as soon as the ENDs of all listed
