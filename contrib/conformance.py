@@ -1,8 +1,8 @@
 #!/usr/bin/env python3
 """Plays the stanzas of conformance/ over the built library, by the wrapper for Python: an example of a second implementation's way to do it.
 
-Members are played with a history, without one, and by one that comes back by its journal before each call. Of frames the library tells group
-and sender; streams it has none. A line for each answer that differs, and at last the count. Ends with 1 where one differs.
+Members are played with a history, without one, and by one that comes back by its journal before each call. The library tells group
+and sender of a frame, and has no streams. A line for each answer that differs, and at last the count. Ends with 1 where one differs.
 
   contrib/conformance.py [FILE..]     those files; else all. JOLUNZA_LIB names the folder of the library
 """

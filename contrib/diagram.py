@@ -6,7 +6,7 @@
     diagram.py --shiviz FILE..      the casts and deliveries as a log for ShiViz
 
 A FILE is a trace, a part of one, or a journal; several are joined, and `-` is standard input. Python 3.9, the standard library alone.
-What happened before what follows from the order of each member's entries, and from which cast each delivery is of. Vector times are
+The order of each member's entries, and the cast of each delivery, give what happened before what. Vector times are
 shown and compared with what was delivered. They only say what happened before a cast of a member whose history is not given.
 """
 
